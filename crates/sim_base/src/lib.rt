@@ -2,8 +2,10 @@
 //! recording, the kinds of diagnostics, counted steps and want of memory.
 #![tactic(auto)]
 
+mod bits;
 mod memory;
 mod name;
 
+pub use bits::Bits;
 pub use memory::NoMemory;
 pub use name::Name;
