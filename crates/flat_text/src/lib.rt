@@ -1,0 +1,8 @@
+//! The text of a flat module: the first form of RTLIL that is read.
+#![tactic(auto)]
+
+mod fault;
+mod module;
+
+pub use fault::FlatFault;
+pub use module::{Attribute, Cell, Connection, Constant, Module, Operand, Parameter, Port, Wire};
