@@ -2,8 +2,11 @@
 //! memory and the real ones.
 #![tactic(auto)]
 
+mod calls;
+mod gathered;
 mod shelf;
 mod sink;
 
+pub use gathered::Gathered;
 pub use shelf::{Shelf, ShelfFault};
 pub use sink::{Put, Sink, SinkFault, put_all};
