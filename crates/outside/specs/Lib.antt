@@ -1,0 +1,5 @@
+pub mod Calls
+pub mod Faults
+pub mod Gathered
+pub mod Shelf
+pub mod Sink

@@ -1,0 +1,12 @@
+//! What lies outside the program: files by their names and sinks of bytes, as traits, with objects in
+//! memory and the real ones.
+#![tactic(auto)]
+
+mod calls;
+mod gathered;
+mod shelf;
+mod sink;
+
+pub use gathered::Gathered;
+pub use shelf::{Shelf, ShelfFault};
+pub use sink::{Put, Sink, SinkFault, put_all};
