@@ -3,9 +3,11 @@
 #![tactic(auto)]
 
 mod bits;
+mod kinds;
 mod memory;
 mod name;
 
 pub use bits::Bits;
+pub use kinds::Kinds;
 pub use memory::NoMemory;
 pub use name::Name;
