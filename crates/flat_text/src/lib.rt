@@ -3,6 +3,8 @@
 
 mod fault;
 mod module;
+mod read;
 
 pub use fault::FlatFault;
 pub use module::{Attribute, Cell, Connection, Constant, Module, Operand, Parameter, Port, Wire};
+pub use read::read_module;
