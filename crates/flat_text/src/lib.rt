@@ -1,6 +1,7 @@
 //! The text of a flat module: the first form of RTLIL that is read.
 #![tactic(auto)]
 
+mod constant;
 mod fault;
 mod module;
 mod read;
