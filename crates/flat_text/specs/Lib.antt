@@ -1,2 +1,4 @@
 pub mod Constants
+pub mod Words
+pub mod Lines
 pub mod Module

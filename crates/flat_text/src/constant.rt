@@ -5,6 +5,7 @@ ghost use Rattle.flat_text.specs.Constants.{number_of, bits_of, bits_of_digits, 
 
 use crate::fault::FlatFault;
 use crate::module::{Constant, Operand};
+use crate::words::place_of;
 use sim_base::{Bits, Name, NoMemory};
 use std::alloc::Global;
 
@@ -31,12 +32,6 @@ pub(crate) fn number_of(word: &[u8]) -> Option<u32>
     Some(number)
 }
 
-fn quote_of(word: &[u8]) -> Option<usize>
-    ensures { result ≡ position (λ c. c == 39) word.now }
-{
-    word.iter().position(|byte| *byte == b'\'')
-}
-
 /// The value of so many binary digits, the most significant first.
 fn bits_of_digits(alloc: Global, width: u32, digits: &[u8]) -> Result<Option<Bits>, NoMemory>
     ensures { IfOk result (λ bits. bits ≡ bits_of_digits width digits.now) }
@@ -60,7 +55,7 @@ fn bits_of_digits(alloc: Global, width: u32, digits: &[u8]) -> Result<Option<Bit
 fn bits_of(alloc: Global, word: &[u8]) -> Result<Option<Bits>, NoMemory>
     ensures { IfOk result (λ bits. bits ≡ bits_of word.now) }
 {
-    let Some(quote) = quote_of(word) else {
+    let Some(quote) = place_of(b'\'', word) else {
         return Ok(None);
     };
     let Some(width) = number_of(&word[..quote]) else {

@@ -3,8 +3,10 @@
 
 mod constant;
 mod fault;
+mod line;
 mod module;
 mod read;
+mod words;
 
 pub use fault::FlatFault;
 pub use module::{Attribute, Cell, Connection, Constant, Module, Operand, Parameter, Port, Wire};
