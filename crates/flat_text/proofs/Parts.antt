@@ -7,6 +7,9 @@ use Rattle.std.proofs.lemmas.Grind.{common_steps}
 use Rattle.std.proofs.lemmas.List.{take_rest, drop_all}
 use Rattle.std.proofs.lemmas.List.Sums.{fails_before_first}
 use Rattle.std.proofs.lemmas.List.Splits.{slice_split_first, slice_split_none, length-slice_split}
+use Rattle.std.specs.Option.{option_map}
+use Rattle.flat_text.specs.Constants.{number_of}
+use Rattle.flat_text.specs.Lines.{numbered, end_of}
 use Rattle.flat_text.specs.Words.{parts, words_of, without_leading_blanks, one_of, two_of}
 
 found : (n at length : ℕ) → cond (nat_lt n length) (Some n) None ≡ Some at → (n < length) × (n ≡ at)
@@ -48,3 +51,11 @@ one_of_more first (second ∷ more) lt = refl
 pub two_of_more : (first second : List ℕ) (more : List (List ℕ)) → 0 < length more → two_of (first ∷ second ∷ more) ≡ None
 two_of_more first second [] lt = absurd (omega arith)
 two_of_more first second (third ∷ more) lt = refl
+
+pub numbered_more : (word : List ℕ) (more : List (List ℕ)) → 0 < length more → numbered (word ∷ more) ≡ option_map (λ n. (n, more)) (number_of word)
+numbered_more word [] lt = absurd (omega arith)
+numbered_more word (next ∷ more) lt = refl
+
+pub end_of_more : (more : List (List ℕ)) → 0 < length more → end_of more ≡ None
+end_of_more [] lt = absurd (omega arith)
+end_of_more (next ∷ more) lt = refl

@@ -32,22 +32,28 @@ attribute_of words = option_and_then (λ (name, value). option_and_then (λ n. o
 unfoldable pub module_line_of : List (List ℕ) → Option Line
 module_line_of words = option_and_then (λ word. option_map line.Module (identifier_of word)) (one_of words)
 
--- a number and what stands behind it
+-- a number, and the words behind it, of which there is one at least
 abbrev pub numbered : List (List ℕ) → Option (ℕ × List (List ℕ))
-numbered (word ∷ rest) = option_map (λ n. (n, rest)) (number_of word)
-numbered [] = None
+numbered (word ∷ next ∷ rest) = option_map (λ n. (n, next ∷ rest)) (number_of word)
+numbered _ = None
 
 -- an identifier, as a wire
 unfoldable pub named_wire_of : ℕ → Port → List (List ℕ) → Option Line
 named_wire_of width side words = option_and_then (λ word. option_map (λ name. line.Wire width side name) (identifier_of word)) (one_of words)
 
--- whether the wire is a port, with the port's number, and its identifier
+-- the word that makes a wire a port
+abbrev pub side_of : List ℕ → Option Port
+side_of word = if bytes_eq word (codes "input") then Some port.Input else (if bytes_eq word (codes "output") then Some port.Output else None)
+
+-- a port has a number, which is dropped, before its identifier
+unfoldable pub wire_on_side : ℕ → Option Port → List ℕ → List (List ℕ) → Option Line
+wire_on_side width (Some side) first rest = option_and_then (λ (_, words). named_wire_of width side words) (numbered rest)
+wire_on_side width None first rest = named_wire_of width port.Internal (first ∷ rest)
+
+-- whether the wire is a port, and its identifier
 unfoldable pub sided_wire_of : ℕ → List (List ℕ) → Option Line
 sided_wire_of width [] = None
-sided_wire_of width (first ∷ rest) =
-    if bytes_eq first (codes "input") then option_and_then (λ (_, words). named_wire_of width port.Input words) (numbered rest) else (
-    if bytes_eq first (codes "output") then option_and_then (λ (_, words). named_wire_of width port.Output words) (numbered rest) else
-    named_wire_of width port.Internal (first ∷ rest))
+sided_wire_of width (first ∷ rest) = wire_on_side width (side_of first) first rest
 
 -- a wire, with the width 1 where none is written
 unfoldable pub wire_of : List (List ℕ) → Option Line
