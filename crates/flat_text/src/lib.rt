@@ -5,6 +5,7 @@ mod constant;
 mod fault;
 mod line;
 mod module;
+mod place;
 mod read;
 mod words;
 
