@@ -1,5 +1,5 @@
 -- Binary digits, read from the most significant on.
-use Rattle.std.proofs.Common.{◌≡◌, ℕ, suc, ◌+◌, ◌-◌, ◌*◌, ◌/◌, ◌%◌, ◌^◌, ◌<◌, ◌≤◌, ◌==◌, Bool, true, false, cond, List, [], ◌∷◌, length, get_or, drop, Option, Some, None, refl, sym, ap, ◌∙◌, arith, add-one, inl, inr}
+use Rattle.std.proofs.Common.{◌≡◌, ℕ, suc, ◌+◌, ◌-◌, ◌*◌, ◌/◌, ◌^◌, ◌<◌, ◌≤◌, ◌==◌, cond, List, length, get_or, drop, Some, None, sym, ap, ◌∙◌, arith, inl, inr}
 use Rattle.std.specs.Option.{option_map}
 use Rattle.std.specs.Int.{bit_at}
 use Rattle.std.proofs.lemmas.Bool.Decides.{nat_tests}
@@ -91,8 +91,8 @@ one_step width at front old new lt is same bits =
     let last : width - 1 - at ≡ width - (at + 1) = omega arith in
     let number : old.number ≡ front * 2 ^ suc (width - 1 - at) = ap (λ b. b.number) is ∙ ap (λ n. front * 2 ^ n) k in
     same_value new width ((front * 2 + 1) * 2 ^ (width - (at + 1)))
-      (same ∙ ap (λ b. b.width) is)
-      (one_digit front (width - 1 - at) new.number (λ j. bits j ∙ ap (λ n. digit_after_set (width - 1 - at) 1 n j) number) ∙ ap (λ n. (front * 2 + 1) * 2 ^ n) last)
+    (same ∙ ap (λ b. b.width) is)
+    (one_digit front (width - 1 - at) new.number (λ j. bits j ∙ ap (λ n. digit_after_set (width - 1 - at) 1 n j) number) ∙ ap (λ n. (front * 2 + 1) * 2 ^ n) last)
 
 pub zero_step : (width at front : ℕ) (old : BitValue) → at < width → old ≡ bit_value width (front * 2 ^ (width - at)) → old ≡ bit_value width (front * 2 * 2 ^ (width - (at + 1)))
 zero_step width at front old lt is =

@@ -1,8 +1,7 @@
 -- The first part of a list that is cut at separators.
-use Rattle.std.proofs.Common.{◌≡◌, ℕ, suc, ◌+◌, ◌-◌, ◌<◌, ◌≤◌, ◌==◌, Bool, true, false, cond, ltb, nat_lt, not, List, [], ◌∷◌, length, get_or, take, drop, Option, Some, None, position, refl, sym, ap, ◌∙◌, arith, inl, inr}
-use Rattle.std.specs.List.{All, slice_split, position_or_len, before_first, after_first, count_by}
+use Rattle.std.proofs.Common.{◌≡◌, ℕ, ◌+◌, ◌-◌, ◌<◌, ◌≤◌, ◌==◌, false, cond, nat_lt, not, List, [], ◌∷◌, length, take, drop, Some, None, position, refl, sym, ap, ◌∙◌, arith}
+use Rattle.std.specs.List.{All, slice_split, position_or_len}
 use Rattle.std.proofs.lemmas.Bool.Decides.{nat_tests}
-use Rattle.std.proofs.lemmas.Bool.{cases_lt}
 use Rattle.std.proofs.lemmas.Grind.{common_steps}
 use Rattle.std.proofs.lemmas.List.{take_rest, drop_all}
 use Rattle.std.proofs.lemmas.List.Sums.{fails_before_first}
@@ -10,7 +9,7 @@ use Rattle.std.proofs.lemmas.List.Splits.{slice_split_first, slice_split_none, l
 use Rattle.std.specs.Option.{option_map}
 use Rattle.flat_text.specs.Constants.{number_of}
 use Rattle.flat_text.specs.Lines.{numbered, end_of}
-use Rattle.flat_text.specs.Words.{parts, words_of, without_leading_blanks, one_of, two_of}
+use Rattle.flat_text.specs.Words.{parts, without_leading_blanks, one_of, two_of}
 
 found : (n at length : ℕ) → cond (nat_lt n length) (Some n) None ≡ Some at → (n < length) × (n ≡ at)
 found n at length is = (grind (arith, nat_tests), grind (arith, nat_tests))

@@ -13,7 +13,7 @@ use Rattle.flat_text.specs.declared.module.Port.{Port}
 use Rattle.flat_text.specs.declared.module.Wire.{Wire}
 use Rattle.flat_text.specs.declared.place.Place.{Place}
 use Rattle.flat_text.specs.declared.place.Place.TheVariants as place
-use Rattle.flat_text.specs.Module.{Body, body_of, body_from, opened, between, parameters, connections, cells_from, headed_from, module_from}
+use Rattle.flat_text.specs.Module.{body_of, body_from, opened, between, parameters, cells_from, headed_from, module_from}
 use Rattle.flat_text.specs.Place.{read_from, with_body, with_cells, LeadsTo, IsRefused}
 
 pub start_autoidx : LeadsTo place.Start line.Autoidx place.Headed
@@ -42,13 +42,13 @@ unfolding body_from
 wires_wire draft waiting width port name rest =
     let wire : Wire = record { name = name; width = width; port = port; attributes = waiting } in
     map_map (with_body draft) (λ body. body_of (wire ∷ body.wires) body.cells) (with_body (record draft { wires = draft.wires ++ wire ∷ [] })) (body_from [] rest)
-      (λ body. ap (λ (ws : List Wire). let m : Module = record draft { wires = ws; cells = draft.cells ++ body.cells } in m) (sym (append_assoc draft.wires (wire ∷ []) body.wires)))
+    (λ body. ap (λ (ws : List Wire). let m : Module = record draft { wires = ws; cells = draft.cells ++ body.cells } in m) (sym (append_assoc draft.wires (wire ∷ []) body.wires)))
 
 pub wires_cell : (draft : Module) (waiting : List Attribute) (kind name : List ℕ) → LeadsTo (place.Wires draft waiting) (line.Cell kind name) (place.Parameters draft (opened kind name))
 unfolding body_from
 wires_cell draft waiting kind name rest =
     map_map (with_body draft) (body_of []) (with_cells draft) (cells_from (parameters (opened kind name)) rest)
-      (λ cells. ap (λ (ws : List Wire). let m : Module = record draft { wires = ws; cells = draft.cells ++ cells } in m) (append-nil draft.wires))
+    (λ cells. ap (λ (ws : List Wire). let m : Module = record draft { wires = ws; cells = draft.cells ++ cells } in m) (append-nil draft.wires))
 
 pub wires_end : (draft : Module) → LeadsTo (place.Wires draft []) line.End (place.Closed draft)
 unfolding body_from
@@ -88,7 +88,7 @@ connections_connect draft cell c rest = refl
 cell_pushed : (draft : Module) (cell : Cell) (x : Option (List Cell)) → option_map (with_cells draft) (option_map (λ cells. cell ∷ cells) x) ≡ option_map (with_cells (record draft { cells = draft.cells ++ cell ∷ [] })) x
 cell_pushed draft cell x =
     map_map (with_cells draft) (λ cells. cell ∷ cells) (with_cells (record draft { cells = draft.cells ++ cell ∷ [] })) x
-      (λ cells. ap (λ (cs : List Cell). let m : Module = record draft { cells = cs } in m) (sym (append_assoc draft.cells (cell ∷ []) cells)))
+    (λ cells. ap (λ (cs : List Cell). let m : Module = record draft { cells = cs } in m) (sym (append_assoc draft.cells (cell ∷ []) cells)))
 
 pub connections_end : (draft : Module) (cell : Cell) → LeadsTo (place.Connections draft cell) line.End (place.Cells (record draft { cells = draft.cells ++ cell ∷ [] }) false)
 unfolding cells_from

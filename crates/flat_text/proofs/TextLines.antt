@@ -4,7 +4,6 @@ use Rattle.std.specs.Option.{option_map, option_and_then}
 use Rattle.std.proofs.lemmas.Bool.Decides.{nat_tests}
 use Rattle.std.proofs.lemmas.List.{nil_from_length}
 use Rattle.flat_text.specs.declared.line.Line.{Line}
-use Rattle.flat_text.specs.declared.line.Line.TheVariants as line
 use Rattle.flat_text.specs.declared.module.Module.{Module}
 use Rattle.flat_text.specs.declared.place.Place.{Place}
 use Rattle.flat_text.specs.declared.place.Place.TheVariants as place

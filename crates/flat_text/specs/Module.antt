@@ -7,7 +7,6 @@ use Rattle.flat_text.specs.declared.module.Attribute.{Attribute}
 use Rattle.flat_text.specs.declared.module.Wire.{Wire}
 use Rattle.flat_text.specs.declared.module.Cell.{Cell}
 use Rattle.flat_text.specs.declared.module.Module.{Module}
-use Rattle.flat_text.specs.declared.module.Port.{Port}
 use Rattle.flat_text.specs.Lines.{line_of}
 use Rattle.flat_text.specs.Words.{lines_of, words_of, without_leading_blanks}
 

@@ -5,7 +5,7 @@ use Rattle.flat_text.specs.declared.module.Cell.{Cell}
 use Rattle.flat_text.specs.declared.module.Module.{Module}
 use Rattle.flat_text.specs.declared.place.Place.{Place}
 use Rattle.flat_text.specs.declared.place.Place.TheVariants as place
-use Rattle.flat_text.specs.Module.{Body, Among, between, parameters, connections, body_from, cells_from, headed_from, module_from, all_said_by}
+use Rattle.flat_text.specs.Module.{Body, between, parameters, connections, body_from, cells_from, headed_from, module_from, all_said_by}
 
 abbrev pub with_body : Module → Body → Module
 with_body draft body = record draft { wires = draft.wires ++ body.wires; cells = draft.cells ++ body.cells }

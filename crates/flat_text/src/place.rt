@@ -24,11 +24,20 @@ pub(crate) enum Place {
         waiting: Items<Attribute>,
     },
     /// Between cells, and whether an attribute waits for its cell.
-    Cells { draft: Module, dangling: bool },
+    Cells {
+        draft: Module,
+        dangling: bool,
+    },
     /// In a cell, where parameters may stand.
-    Parameters { draft: Module, cell: Cell },
+    Parameters {
+        draft: Module,
+        cell: Cell,
+    },
     /// In a cell, where parameters stand no more.
-    Connections { draft: Module, cell: Cell },
+    Connections {
+        draft: Module,
+        cell: Cell,
+    },
     /// Behind the last `end`.
     Closed(Module),
 }
@@ -114,12 +123,7 @@ fn at_wires(
     }
 }
 
-fn at_cells(
-    alloc: Global,
-    draft: Module,
-    dangling: bool,
-    line: Line,
-) -> Result<Place, FlatFault>
+fn at_cells(alloc: Global, draft: Module, dangling: bool, line: Line) -> Result<Place, FlatFault>
     ensures ok { IfOk result (λ after. LeadsTo (place.Cells draft dangling) line after) }
     ensures not_built { result ≡ Err FlatFault.NotBuilt → IsRefused (place.Cells draft dangling) line }
 {

@@ -1,4 +1,4 @@
-use Rattle.std.proofs.Common.{◌≡◌, ◌^◌, ◌*◌, ◌-◌, ◌<◌, ℕ, drop}
+use Rattle.std.proofs.Common.{◌≡◌, ◌^◌, ◌*◌, ◌-◌, ℕ, drop}
 use Rattle.sim_base.specs.BitValue.{bit_value}
 use Rattle.flat_text.specs.Constants.{binary_after}
 use Rattle.flat_text.proofs.constant.bits_of_digits.Given as goal

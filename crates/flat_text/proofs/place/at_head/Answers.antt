@@ -1,6 +1,5 @@
 use Rattle.std.proofs.Common.{◌≡◌, ℕ, List, [], ap, ◌∙◌}
 use Rattle.flat_text.specs.declared.line.Line.TheVariants as line
-use Rattle.flat_text.specs.declared.module.Module.{Module}
 use Rattle.flat_text.specs.declared.module.Attribute.{Attribute}
 use Rattle.flat_text.specs.declared.module.Wire.{Wire}
 use Rattle.flat_text.specs.declared.module.Cell.{Cell}
@@ -24,7 +23,7 @@ returns-in-Module-clause-ok c =
     let empty : Place = place.Wires (record { name = c.in-Module.name; wires = []; cells = [] }) [] in
     let made : Place = place.Wires (record { name = c.in-Module.name; wires = c.new.result; cells = c.new-in-Module.result }) c.new-in-Module-2.result in
     at_place place.Headed c.args.line made empty (emptied c.in-Module.name c.new.result c.new-in-Module.result c.new-in-Module-2.result c.new.ensures c.new-in-Module.ensures c.new-in-Module-2.ensures)
-      (at_line place.Headed c.args.line (line.Module c.in-Module.name) empty c.in-Module.is (head_module c.in-Module.name))
+    (at_line place.Headed c.args.line (line.Module c.in-Module.name) empty c.in-Module.is (head_module c.in-Module.name))
 
 pub returns : goal.returns
 returns c = record { ok = tt; not_built = λ _. head_refused c.args.line c.in_default.not-Attribute c.in_default.not-Module }

@@ -1,4 +1,4 @@
-use Rattle.std.proofs.Common.{◌≡◌, sym, ap, ◌∙◌, Err}
+use Rattle.std.proofs.Common.{◌≡◌, sym, ◌∙◌, Err}
 use Rattle.std.proofs.lemmas.Result.{IfOk-weaker, err_from_is_err_and}
 use Rattle.flat_text.specs.declared.fault.FlatFault.TheVariants as fault
 use Rattle.flat_text.specs.Place.{LeadsTo, LeadsPast}
@@ -26,5 +26,5 @@ returns c =
     record {
       ok = IfOk-weaker c.after.result (LeadsTo c.args.place c.in_ok-said.said) (LeadsPast c.args.place c.args.line.now)
           (λ after leads. line_leads c.args.place after c.args.line.now words c.in_ok-said.said w some c.in_ok-said.ensures.ok leads) c.after.ensures.ok;
-      not_built = λ e. line_refused c.args.place c.args.line.now words c.in_ok-said.said w some c.in_ok-said.ensures.ok (c.after.ensures.not_built e)
+      not_built = λ e. line_refused c.args.place c.args.line.now words c.in_ok-said.said w some c.in_ok-said.ensures.ok (c.after.ensures.not_built e);
     }

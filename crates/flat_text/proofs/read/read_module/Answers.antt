@@ -1,7 +1,6 @@
-use Rattle.std.proofs.Common.{◌≡◌, ℕ, List, [], Option, None, Some, Bor, sym, ap, ◌∙◌, Err, option_copied}
+use Rattle.std.proofs.Common.{◌≡◌, ℕ, List, Option, Bor, sym, ap, ◌∙◌, Err, option_copied}
 use Rattle.std.proofs.lemmas.Result.{err_from_is_err_and}
 use Rattle.flat_text.specs.declared.fault.FlatFault.TheVariants as fault
-use Rattle.flat_text.specs.Module.{module_of}
 use Rattle.flat_text.specs.Place.{read_lines_from}
 use Rattle.flat_text.specs.Words.{parts_left}
 use Rattle.flat_text.proofs.TextLines.{ended, module_of_text, no_text}

@@ -1,4 +1,4 @@
-use Rattle.std.proofs.Common.{ℕ, List, Option, Bor, sym, ap, ◌∙◌, ◌∷◌, option_copied}
+use Rattle.std.proofs.Common.{ℕ, List, Option, Bor, ap, ◌∙◌, ◌∷◌, option_copied}
 use Rattle.flat_text.specs.Words.{two_of, parts, parts_left}
 use Rattle.flat_text.proofs.Parts.{two_of_more, some_part}
 use Rattle.flat_text.proofs.words.two_of.Goals as goal
