@@ -5,8 +5,10 @@
 mod calls;
 mod gathered;
 mod shelf;
+mod shelves;
 mod sink;
 
 pub use gathered::Gathered;
 pub use shelf::{Shelf, ShelfFault};
+pub use shelves::Shelves;
 pub use sink::{Put, Sink, SinkFault, put_all};
