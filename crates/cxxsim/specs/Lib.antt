@@ -1,0 +1,4 @@
+pub mod Words
+pub mod TraceText
+pub mod Printed
+pub mod Trace

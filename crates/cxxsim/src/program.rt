@@ -1,0 +1,4 @@
+//! The whole program.
+pub fn cxxsim() -> u8 {
+    0
+}
