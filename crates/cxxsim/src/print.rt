@@ -41,7 +41,7 @@ fn push_value(text: &mut Vec<u8>, width: u32, number: u64) -> Result<(), NoMemor
 
 /// The net of a node.
 fn net_of(item: &Item) -> u32
-    ensures { (c : Circuit) → IsNodeOf c item.now.kind → result < length c.nets }
+    ensures there { (c : Circuit) → IsNodeOf c item.now.kind → result < length c.nets }
     ensures number { (nets : List ℕ) → item_number nets item.now.kind ≡ slice_index nets result }
     ensures width { (c : Circuit) → kind_width c item.now.kind ≡ width_of (slice_get c.nets result) }
 {

@@ -1,5 +1,5 @@
 //! The trace of a run.
-ghost use Rattle.std.specs.Prelude.{◌≡◌, ◌≢◌, ℕ, ◌+◌, ◌<◌, ◌≤◌, ◌++◌, List, Some, None, Ok, length, nat_lt, true, false, IfOk, IsErrOf, suc};
+ghost use Rattle.std.specs.Prelude.{◌≡◌, ◌<◌, ◌≤◌, ◌++◌, ◌⊎◌, [], None, Ok, Some, length, false, suc, true, IfOk, IsErr, IsErrOf, nat_lt};
 ghost use Rattle.std.specs.Io.KnownBytes.{append_known};
 ghost use Rattle.circuit.specs.Run.{Run, run_length, standing_after};
 ghost use Rattle.flat_design.specs.Flat.{IsFlat};
@@ -60,4 +60,52 @@ fn flush<O: Sink>(text: &mut Vec<u8>, out: &mut O) -> Result<(), TraceFault>
     put_all(out, text).map_err(|_| TraceFault::Write)?;
     text.clear();
     Ok(())
+}
+
+/// Hands the text to the output where it is long enough.
+fn flush_long<O: Sink>(text: &mut Vec<u8>, out: &mut O) -> Result<(), TraceFault>
+    ensures ok { IfOk result (λ _. append_known (O.held out.new) text.new.items ≡ append_known (O.held out.old) text.old.items) }
+    ensures write { IsErrOf result TraceFault.Write → Rose (O.faults out.old) (O.faults out.new) }
+    ensures only { IsErr result → IsErrOf result TraceFault.Write }
+    ensures later { O.faults out.old ≤ O.faults out.new }
+{
+    if text.len() < ENOUGH {
+        return Ok(());
+    }
+    flush(text, out)
+}
+
+/// Prints the trace of the circuit under the stimulus, and answers whether a sample did not settle.
+pub fn write_trace<O: Sink>(
+    alloc: Global,
+    circuit: &Circuit,
+    stimulus: &FlatStimulus,
+    out: &mut O,
+) -> Result<bool, TraceFault>
+    requires flat { IsFlat circuit.now }
+    requires samples { AreSamples circuit.now stimulus.now }
+    ensures ends { IfOk result (λ unsettled. unsettled ≡ nat_lt (run_length (run_under circuit.now stimulus.now)) (sample_count stimulus.now)) }
+    ensures printed { IfOk result (λ unsettled. O.held out.new ≡ append_known (O.held out.old) (trace_text (run_under circuit.now stimulus.now) (run_length (run_under circuit.now stimulus.now)) unsettled)) }
+    ensures write { IsErrOf result TraceFault.Write → Rose (O.faults out.old) (O.faults out.new) }
+    ensures only { IsErr result → IsErrOf result TraceFault.Write ⊎ IsErrOf result TraceFault.NoMemory }
+    ensures later { O.faults out.old ≤ O.faults out.new }
+{
+    length_of_run();
+    let mut rounds = Rounds::new(alloc, circuit)?;
+    let mut inputs = vec![in alloc; 0u64; circuit.inputs.len()].map_err(NoMemory::from)?;
+    let mut text = Vec::new(alloc);
+    push_header(&mut text, circuit)?;
+    let count = stimulus.count();
+    let mut done = 0;
+    while done < count {
+        if !trace_sample(circuit, stimulus, done, &mut rounds, &mut inputs, &mut text)? {
+            break;
+        }
+        done += 1;
+        flush_long(&mut text, out)?;
+    }
+    let unsettled = done < count;
+    push_last_line(&mut text, unsettled, done)?;
+    flush(&mut text, out)?;
+    Ok(unsettled)
 }
