@@ -31,21 +31,24 @@ pub record IsDesign (limit : ℕ) (file : File) (c : Circuit) : Type 0 where
   pub held : MayHold limit file text
   pub read : design_circuit text ≡ Some c
 
--- this may be the run of the two files
-pub record IsRun (limit : ℕ) (design stimulus : File) (run : Run) : Type 0 where
-  pub circuit : IsDesign limit design run.circuit
+-- this may be the block of the file, for that circuit
+pub record IsStimulus (limit : ℕ) (file : File) (c : Circuit) (b : Block) : Type 0 where
   pub text : List ℕ
-  pub held : MayHold limit stimulus text
-  pub block : Block
-  pub read : block_of text run.circuit ≡ Some block
-  pub samples : run ≡ run_under run.circuit block
+  pub held : MayHold limit file text
+  pub read : block_of text c ≡ Some b
+
+-- this may be the run of the two files
+pub record IsRun (limit : ℕ) (design stimulus : File) (c : Circuit) (b : Block) : Type 0 where
+  pub circuit : IsDesign limit design c
+  pub block : IsStimulus limit stimulus c b
 
 -- the trace of the two files came behind what was held, and says whether a sample did not settle
 pub record IsTrace (limit : ℕ) (design stimulus : File) (unsettled : Bool) (before now : Option (List ℕ)) : Type 0 where
-  pub run : Run
-  pub is_run : IsRun limit design stimulus run
-  pub ends : unsettled ≡ nat_lt (run_length run) run.count
-  pub printed : now ≡ append_known before (trace_text run (run_length run) unsettled)
+  pub circuit : Circuit
+  pub block : Block
+  pub is_run : IsRun limit design stimulus circuit block
+  pub ends : unsettled ≡ nat_lt (run_length (run_under circuit block)) (sample_count block)
+  pub printed : now ≡ append_known before (trace_text (run_under circuit block) (run_length (run_under circuit block)) unsettled)
 
 -- a text of the file that is not in the form that is read
 pub record HasNoDesign (limit : ℕ) (file : File) : Type 0 where
@@ -53,12 +56,15 @@ pub record HasNoDesign (limit : ℕ) (file : File) : Type 0 where
   pub held : MayHold limit file text
   pub unread : design_circuit text ≡ None
 
+pub record HasNoBlock (limit : ℕ) (file : File) (c : Circuit) : Type 0 where
+  pub text : List ℕ
+  pub held : MayHold limit file text
+  pub unread : block_of text c ≡ None
+
 pub record HasNoStimulus (limit : ℕ) (design stimulus : File) : Type 0 where
   pub circuit : Circuit
   pub is_design : IsDesign limit design circuit
-  pub text : List ℕ
-  pub held : MayHold limit stimulus text
-  pub unread : block_of text circuit ≡ None
+  pub unread : HasNoBlock limit stimulus circuit
 
 pub record HasLongStimulus (limit : ℕ) (design stimulus : File) : Type 0 where
   pub circuit : Circuit
