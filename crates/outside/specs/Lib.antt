@@ -4,3 +4,4 @@ pub mod Gathered
 pub mod Shelf
 pub mod Shelves
 pub mod Sink
+pub mod Stream

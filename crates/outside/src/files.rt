@@ -6,8 +6,7 @@ use crate::shelf::{Shelf, ShelfFault};
 use sim_base::Name;
 use std::alloc::Global;
 use std::io::{ErrorKind, Read, Write};
-use std::rt;
-use std::{fs, io};
+use std::{fs, io, rt};
 
 /// How many bytes of a file are read at a time.
 const CHUNK: usize = 8192;
@@ -22,7 +21,10 @@ pub struct Files<R> {
 }
 
 impl<R: rt::Files> Files<R> {
-    pub fn new(rt: R) -> Files<R> {
+    pub fn new(rt: R) -> Files<R>
+        ensures reads { ⟦<Files<R> as Shelf>⟧.read_faults result ≡ 0 }
+        ensures writes { ⟦<Files<R> as Shelf>⟧.write_faults result ≡ 0 }
+    {
         Files {
             rt,
             read_faults: 0,
@@ -58,7 +60,12 @@ impl<R: rt::Files> Shelf for Files<R> {
 }
 
 /// All bytes of the file, if there are at most `limit` of them.
-fn read_file<R: rt::Files>(rt: &R, alloc: Global, name: &Name, limit: u64) -> Result<Vec<u8>, ShelfFault>
+fn read_file<R: rt::Files>(
+    rt: &R,
+    alloc: Global,
+    name: &Name,
+    limit: u64,
+) -> Result<Vec<u8>, ShelfFault>
     ensures { IfOk result (λ bytes. vec_len bytes ≤ limit) }
 {
     let path = path_of(name)?;
@@ -84,7 +91,9 @@ fn read_within<F: Read>(file: &mut F, alloc: Global, limit: u64) -> Result<Vec<u
         if count as u64 > room {
             return Err(ShelfFault::TooLong);
         }
-        bytes.extend_from_slice(&chunk[..count]).map_err(|_| ShelfFault::NoMemory)?;
+        bytes
+            .extend_from_slice(&chunk[..count])
+            .map_err(|_| ShelfFault::NoMemory)?;
     }
 }
 

@@ -16,3 +16,6 @@ pub use shelf::{Shelf, ShelfFault};
 pub use shelves::Shelves;
 pub use sink::{Put, Sink, SinkFault, put_all};
 pub use streams::{StdErr, StdOut, Stream};
+
+#[cfg(test)]
+mod tests;

@@ -186,7 +186,12 @@ fn copy_within(alloc: Global, bytes: &[u8], limit: u64) -> Result<Vec<u8>, Shelf
 }
 
 /// Puts a copy of the bytes under a copy of the name, in place of what has the name.
-fn store(files: &mut BTreeMap<Name, Contents>, alloc: Global, name: &Name, bytes: &[u8]) -> Result<(), NoMemory>
+fn store(
+    files: &mut BTreeMap<Name, Contents>,
+    alloc: Global,
+    name: &Name,
+    bytes: &[u8],
+) -> Result<(), NoMemory>
     ensures stored { OnOk result (file_in files.new.entries name.now ≡ Holds bytes.now) }
     ensures others { (other : List ℕ) → other ≢ name.now → file_in files.new.entries other ≡ file_in files.old.entries other }
     ensures err { OnErr result (files.new.entries ≡ files.old.entries) }
