@@ -1,5 +1,6 @@
 -- What a call of the program with some words does, from what its shelf tells of the files.
-use Rattle.std.specs.Prelude.{◌≡◌, ◌⊎◌, ⊤, ℕ, List, Bool, Option, Some, None}
+use Rattle.std.specs.Prelude.{◌≡◌, ◌⊎◌, ⊤, ℕ, List, [], ◌∷◌, Bool, Option, Some, None, nat_eq}
+use Rattle.std.specs.List.{list_any}
 use Rattle.std.specs.Io.KnownBytes.{append_known}
 use Rattle.circuit.specs.declared.netlist.Circuit.{Circuit}
 use Rattle.flat_stimulus.specs.Block.{Block}
@@ -41,3 +42,7 @@ AreTold file (Some c) = IsTold (file c.design) × IsTold (file c.stimulus)
 abbrev pub IsWriteFault : (List ℕ → File) → Option TraceCommand → Type 0 → Type 0 → Type 0
 IsWriteFault file command out_rose log_rose =
     (HasRun file command × out_rose) ⊎ (((command ≡ None) ⊎ ((r : Refusal) × IsFaultOf file command r)) × log_rose)
+
+-- the statuses that a call can end with
+abbrev pub is_status : ℕ → Bool
+is_status n = list_any (nat_eq n) (0 ∷ 2 ∷ 3 ∷ 4 ∷ 5 ∷ 6 ∷ 8 ∷ [])

@@ -1,11 +1,11 @@
 //! The whole program, over any shelf and any sinks.
-ghost use Rattle.std.specs.Prelude.{◌≡◌, ◌⊎◌, ℕ, ◌≤◌, List, [], ◌∷◌, Contains, IfOk, IsErrOf, IsSome, None, false, map, string_bytes, true};
+ghost use Rattle.std.specs.Prelude.{◌≡◌, ◌⊎◌, ℕ, ◌≤◌, List, IfOk, IsTrue, IsErrOf, IsSome, None, false, map, string_bytes, true};
 ghost use Rattle.std.specs.Io.KnownBytes.{append_known};
 ghost use Rattle.circuit.specs.declared.netlist.Circuit.{Circuit};
 ghost use Rattle.flat_stimulus.specs.Block.{Block};
 ghost use Rattle.outside.specs.Faults.{Rose};
 ghost use Rattle.cxxsim.specs.Printed.{usage_line};
-ghost use Rattle.cxxsim.specs.Program.{AreTold, IsFaultOf, IsRefusalOf, IsTraceOf, IsWriteFault};
+ghost use Rattle.cxxsim.specs.Program.{AreTold, IsFaultOf, IsRefusalOf, IsTraceOf, IsWriteFault, is_status};
 ghost use Rattle.cxxsim.specs.Trace.{IsFault, IsRun, IsTrace};
 ghost use Rattle.cxxsim.specs.Words.{command_of};
 ghost use Rattle.cxxsim.specs.declared.refusal.Refusal.{Refusal};
@@ -126,7 +126,7 @@ pub fn cxxsim<R: AllocGlobal, S: Shelf, O: Sink, G: Sink>(
     out: &mut O,
     log: &mut G,
 ) -> u8
-    ensures statuses { Contains (0 ∷ 2 ∷ 3 ∷ 4 ∷ 5 ∷ 6 ∷ 8 ∷ []) result }
+    ensures statuses { IsTrue (is_status result) }
 
     // 0 and 6: the output holds what it held, followed by the trace of the run of the two files.
     ensures done { result ≡ 0 → IsTraceOf (S.file shelf.old) (command_of (map string_bytes words.now)) false (O.held out.old) (O.held out.new) }
