@@ -4,6 +4,7 @@
 
 mod bits;
 mod digits;
+mod hexadecimal;
 mod kinds;
 mod memory;
 mod name;
