@@ -8,6 +8,8 @@ mod hexadecimal;
 mod kinds;
 mod memory;
 mod name;
+mod shape;
+mod steps;
 mod time;
 
 pub use bits::Bits;
@@ -15,4 +17,6 @@ pub use digits::write_lowest_digits;
 pub use kinds::Kinds;
 pub use memory::NoMemory;
 pub use name::Name;
+pub use shape::Shape;
+pub use steps::Steps;
 pub use time::Time;
