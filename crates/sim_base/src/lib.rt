@@ -10,6 +10,8 @@ mod memory;
 mod name;
 mod shape;
 mod steps;
+#[cfg(test)]
+mod tests;
 mod time;
 
 pub use bits::Bits;
