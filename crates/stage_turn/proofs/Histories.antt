@@ -5,7 +5,7 @@ use Rattle.std.proofs.lemmas.List.{append-nil}
 use Rattle.std.proofs.lemmas.List.Elements.{All-nil, All-append}
 use Rattle.stage_turn.specs.declared.known.Part.{Part}
 use Rattle.stage_turn.specs.Kept.{Owner, writer, client, nobody, Reading, count_of}
-use Rattle.stage_turn.specs.Known.{no_part, Guards, longer, both_parts, OneBeginsOther, IsForeign, Follows}
+use Rattle.stage_turn.specs.Known.{no_part, Guards, longer, both_parts, IsForeign, Follows}
 use Rattle.stage_turn.specs.Rule.{IsAlive}
 use Rattle.stage_turn.specs.Steps.{behind_part}
 use Rattle.stage_turn.proofs.Sums.{count_of-append}
@@ -62,13 +62,6 @@ module _ {E : Type 0} where
   pub behind_guards : (p q : Part E) (o : Owner) → Guards (behind_part p q) o → Guards (both_parts p q) o
   behind_guards p q o i = cond_guards p q (longer p.seen q.seen) (ltb (length p.seen) (length q.seen)) o i
 
-  shorter_behind : (p q : Part E) → length (behind_part p q).seen ≤ length (longer p.seen q.seen)
-  shorter_behind p q = pick (ltb (length p.seen) (length q.seen)) refl
-    where
-      pick : (b : Bool) → ltb (length p.seen) (length q.seen) ≡ b → length (cond b p q).seen ≤ length (cond b q.seen p.seen)
-      pick true e = let d = ltb-true _ _ e in omega arith
-      pick false e = ltb-false _ _ e
-
 module _ {T R E : Type 0} (k : Reading T R E) where
   -- a spent part follows each history
   pub none_follows : (h : List E) → Follows k no_part h
@@ -113,14 +106,3 @@ module _ {T R E : Type 0} (k : Reading T R E) where
       pick : (b : Bool) → Follows k (both_at p q (cond b q.seen p.seen)) h → Follows k (cond b p q) h → Follows k p h × Follows k q h
       pick true f g = (g, follows_less q (both_at p q q.seen) h refl (right_guards p q q.seen) f)
       pick false f g = (follows_less p (both_at p q p.seen) h refl (left_guards p q p.seen) f, g)
-
-  -- what a join has told, once its note was read
-  pub told_of_both : (p q : Part E) → (length (behind_part p q).seen ≤ length (longer p.seen q.seen) → Follows k (behind_part p q) (longer p.seen q.seen)) → Follows k p (longer p.seen q.seen) × Follows k q (longer p.seen q.seen)
-  told_of_both p q f = parted p q (longer p.seen q.seen) (up_to_date (both_parts p q) (longer p.seen q.seen) refl) (f (shorter_behind p q))
-
-  pub one_begins : (p q : Part E) → Follows k p (longer p.seen q.seen) → Follows k q (longer p.seen q.seen) → OneBeginsOther p.seen q.seen
-  one_begins p q f g = pick (ltb (length p.seen) (length q.seen)) f g
-    where
-      pick : (b : Bool) → Follows k p (cond b q.seen p.seen) → Follows k q (cond b q.seen p.seen) → OneBeginsOther p.seen q.seen
-      pick true f g = inl (f.behind, f.begins)
-      pick false f g = inr (g.behind, g.begins)

@@ -12,6 +12,7 @@ pub trait Kept: Drop {
     /// What all values of one turn have in common.
     type Run;
 
+    /// What a value is a list of.
     type Entry;
 
     ghost reading: { Reading Self Self.Run Self.Entry };

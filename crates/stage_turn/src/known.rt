@@ -11,8 +11,8 @@ pub struct Part<E> {
     pub clients: LinkedList<u64>,
 }
 
-/// What a seat owns, whether it holds the turn, the run of its turn, and the last count that it was told, 0 before the
-/// first. The note is for the crate's own proofs, and is of no pen, no share, no entry and no client between two calls.
+/// What a seat owns, whether it holds the turn, the run of its turn, and the last count that it was told, which is 0
+/// before the first. The note serves the crate's own proofs: between two calls it is a part with nothing.
 pub struct Known<R, E> {
     pub own: Part<E>,
     pub note: Part<E>,

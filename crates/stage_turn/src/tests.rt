@@ -1,5 +1,5 @@
 ghost use Rattle.std.specs.Prelude.{◌≡◌, ◌<◌, ◌++◌, [], ◌∷◌, IfOk, false};
-ghost use Rattle.stage_turn.specs.Known.{IsWriter, IsClerk, IsResting, MayAdd, first_writer, first_clerk};
+ghost use Rattle.stage_turn.specs.Known.{IsWriter, IsClerk, IsResting, MayAdd};
 ghost use Rattle.stage_turn.specs.TestLog.{IsSameRole};
 ghost use Rattle.stage_turn.specs.Kept.{count_of};
 
@@ -9,7 +9,6 @@ use crate::seat::TurnSeat;
 use crate::tests::log::{Entry, Log};
 use crate::turn::Turn;
 use sim_base::NoMemory;
-use std::alloc::Global;
 use std::sync::Wait;
 use std::test::*;
 use std::thread;

@@ -1,6 +1,6 @@
 //! The turn and its calls.
 
-ghost use Rattle.std.specs.Prelude.{◌≡◌, ◌≤◌, ◌<◌, ◌++◌, [], List, length, true, false, IfOk, IfSome, IfNone};
+ghost use Rattle.std.specs.Prelude.{◌≡◌, ◌≤◌, ◌++◌, [], List, length, IfOk, IfSome, IfNone};
 ghost use Rattle.stage_turn.specs.Kept.{openings};
 ghost use Rattle.stage_turn.specs.Known.{IsWriter, IsClerk, HasWholeShare, IsInTurn, IsResting, OneBeginsOther, Follows, first_writer, first_clerk, appended, holding, resting, told, giver, newcomer, joined};
 ghost use Rattle.stage_turn.specs.Turn.{Finds, Leaves, Closes};
@@ -18,8 +18,8 @@ use std::snapshot::Snapshot;
 use std::sync::Wait;
 use std::thread;
 
-/// One value for many threads. All calls but `new` and `close` go through a `&`, each with a seat of this turn.
-/// Clauses see which turn it is.
+/// One value for many threads. All calls but `new` and `close` go through a `&`, each with a seat of this turn, and
+/// only `take` waits. Clauses see which turn it is.
 #[derive(Drop)]
 pub struct Turn<T: Kept> {
     table: Table<Option<T>, Known<T::Run, T::Entry>, Snapshot<T>, Law<T>, Global>,
@@ -95,7 +95,8 @@ impl<T: Kept> Turn<T> {
         Some(self.table.shared.exchange(&mut seat.seat, 0, None).unwrap())
     }
 
-    /// Takes the value, as the seat that had it last left it. Waits while another seat has it.
+    /// Takes the value, as the seat that had it last left it. Waits while another seat has it. Which of the seats that
+    /// wait gets it next is not said.
     pub fn take<R: Wait>(&self, rt: &R, seat: &mut TurnSeat<T>) -> T
         requires seat { seat.old.turn ≡ self.now }
         requires resting { IsResting seat.old.knows }
@@ -148,7 +149,8 @@ impl<T: Kept> Turn<T> {
         }
     }
 
-    /// One clerk's seat of two, with the longer history, both shares and the clients of both.
+    /// One clerk's seat of two, which has seen the longer history of the two, and has both shares and the clients of
+    /// both.
     pub fn join(&self, into: &mut TurnSeat<T>, from: TurnSeat<T>)
         requires seats { (into.old.turn ≡ self.now) × (from.turn ≡ self.now) }
         requires resting { IsResting into.old.knows × IsResting from.knows }
@@ -163,8 +165,8 @@ impl<T: Kept> Turn<T> {
         self.table.shared.load::<LearnStep<T>>(&mut into.seat, 0);
     }
 
-    /// The number of entries that the value had when it was left last. Waits for nobody, also while a seat has the
-    /// value.
+    /// How many entries the value had when it was left last: no fewer than this seat has seen, and no fewer than it
+    /// was told before. Waits for nobody, also while another seat has the value.
     pub fn load_count(&self, seat: &mut TurnSeat<T>) -> u64
         requires seat { seat.old.turn ≡ self.now }
         ensures seat { (seat.new.turn ≡ self.now) × (seat.new.knows ≡ told result seat.old.knows) }
@@ -173,8 +175,8 @@ impl<T: Kept> Turn<T> {
         self.table.shared.load::<CountStep>(&mut seat.seat, 1)
     }
 
-    /// The value as it was left last, with no other entries than those that the first had and that the writer and the
-    /// clerks, of which this is the only one, added.
+    /// The value as it was left last. The clerk is the only one, so beside the writer's entries there are only its own
+    /// and those of the clerks that were joined into it.
     pub fn close(self, writer: TurnSeat<T>, clerk: TurnSeat<T>) -> T
         requires seats { (writer.turn ≡ self) × (clerk.turn ≡ self) }
         requires resting { IsResting writer.knows × IsResting clerk.knows }

@@ -1,5 +1,5 @@
 //! A small value for a turn to keep.
-ghost use Rattle.std.specs.Prelude.{◌≡◌, ◌≢◌, [], IfOk, IfErr, None, Some, true, false};
+ghost use Rattle.std.specs.Prelude.{◌≡◌, [], IfOk, IfErr, false};
 ghost use Rattle.stage_turn.specs.Kept.{client, writer, nobody};
 ghost use Rattle.stage_turn.specs.TestLog.{Adds, Opens, opening_of};
 
