@@ -2,7 +2,8 @@
 
 ghost use Rattle.std.specs.Prelude.{◌≡◌, ◌≤◌, ◌++◌, [], List, length, IfOk, IfSome, IfNone};
 ghost use Rattle.stage_turn.specs.Kept.{openings};
-ghost use Rattle.stage_turn.specs.Known.{IsWriter, IsClerk, HasWholeShare, IsInTurn, IsResting, OneBeginsOther, Follows, first_writer, first_clerk, appended, holding, resting, told, giver, newcomer, joined};
+ghost use Rattle.stage_turn.specs.Known.{IsWriter, IsClerk, HasWholeShare, IsInTurn, IsResting, OneBeginsOther, Follows};
+ghost use Rattle.stage_turn.specs.Known.{first_writer, first_clerk, appended, holding, resting, told, giver, newcomer, joined};
 ghost use Rattle.stage_turn.specs.Turn.{Finds, Leaves, Closes};
 ghost use Rattle.stage_turn.specs.Steps.{writer_of, clerk_of};
 
@@ -45,8 +46,9 @@ impl<T: Kept> Turn<T> {
     pub fn new(alloc: Global, first: T) -> Result<(Turn<T>, TurnSeat<T>, TurnSeat<T>), NoMemory>
         requires order { T.reading.in_order first }
         requires opens_nobody { openings T.reading (T.reading.entries first) ≡ [] }
-        ensures writer { IfOk result (λ r. (r.1.turn ≡ r.0) × (r.1.knows ≡ first_writer T.reading first)) }
-        ensures clerk { IfOk result (λ r. (r.2.turn ≡ r.0) × (r.2.knows ≡ first_clerk T.reading first)) }
+        ensures seats { IfOk result (λ r. (r.1.turn ≡ r.0) × (r.2.turn ≡ r.0)) }
+        ensures writer { IfOk result (λ r. r.1.knows ≡ first_writer T.reading first) }
+        ensures clerk { IfOk result (λ r. r.2.knows ≡ first_clerk T.reading first) }
     {
         let known = Snapshot::of(&first);
         let count = first.length();
@@ -82,7 +84,8 @@ impl<T: Kept> Turn<T> {
         requires resting { IsResting seat.old.knows }
         ensures seat { seat.new.turn ≡ self.now }
         ensures held { IfNone result (seat.new ≡ seat.old) }
-        ensures knows { IfSome result (λ value. seat.new.knows ≡ holding (T.reading.entries value) seat.old.knows) }
+        ensures knows { IfSome result (λ value.
+            seat.new.knows ≡ holding (T.reading.entries value) seat.old.knows) }
         ensures finds { IfSome result (λ value. Finds T.reading seat.old.knows value) }
     {
         let found = self
@@ -122,11 +125,14 @@ impl<T: Kept> Turn<T> {
         requires leaves { (more : List T.Entry) × Leaves T.reading seat.old.knows value more }
         ensures seat { seat.new.turn ≡ self.now }
         ensures rests { IsResting seat.new.knows }
-        ensures role { (seat.new.knows.own.pen ≡ seat.old.knows.own.pen) × (seat.new.knows.own.share ≡ seat.old.knows.own.share) }
+        ensures pen { seat.new.knows.own.pen ≡ seat.old.knows.own.pen }
+        ensures share { seat.new.knows.own.share ≡ seat.old.knows.own.share }
         ensures seen { seat.new.knows.own.seen ≡ T.reading.entries value }
 
         // The new entries are those behind what the seat had seen.
-        ensures knows { (more : List T.Entry) → T.reading.entries value ≡ seat.old.knows.own.seen ++ more → seat.new.knows ≡ resting (appended T.reading more seat.old.knows) }
+        ensures knows { (more : List T.Entry) →
+            T.reading.entries value ≡ seat.old.knows.own.seen ++ more →
+            seat.new.knows ≡ resting (appended T.reading more seat.old.knows) }
     {
         let count = value.length();
         drop(self.table.shared.exchange(&mut seat.seat, 0, Some(value)));
@@ -158,7 +164,10 @@ impl<T: Kept> Turn<T> {
         ensures seat { into.new.turn ≡ self.now }
         ensures knows { into.new.knows ≡ joined into.old.knows from.knows }
         ensures one_history { OneBeginsOther into.old.knows.own.seen from.knows.own.seen }
-        ensures follows { Follows T.reading into.old.knows.own into.new.knows.own.seen × Follows T.reading from.knows.own into.new.knows.own.seen }
+
+        // Behind what one of the two had seen there is no entry that was this one's own.
+        ensures into_follows { Follows T.reading into.old.knows.own into.new.knows.own.seen }
+        ensures from_follows { Follows T.reading from.knows.own into.new.knows.own.seen }
     {
         let TurnSeat { seat } = from;
         self.table.shared.join_seat::<Merge>(&mut into.seat, seat);
@@ -170,7 +179,8 @@ impl<T: Kept> Turn<T> {
     pub fn load_count(&self, seat: &mut TurnSeat<T>) -> u64
         requires seat { seat.old.turn ≡ self.now }
         ensures seat { (seat.new.turn ≡ self.now) × (seat.new.knows ≡ told result seat.old.knows) }
-        ensures grows { (seat.old.knows.heard ≤ result) × (length seat.old.knows.own.seen ≤ result) }
+        ensures seen { length seat.old.knows.own.seen ≤ result }
+        ensures grows { seat.old.knows.heard ≤ result }
     {
         self.table.shared.load::<CountStep>(&mut seat.seat, 1)
     }
