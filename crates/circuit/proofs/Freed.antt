@@ -1,0 +1,119 @@
+-- What is free, and that its digit stays.
+use Rattle.std.proofs.Common.{◌≡◌, ℕ, zero, suc, ◌+◌, ◌-◌, ◌<◌, List, [], ◌∷◌, refl, sym, ◌∙◌, ap, subst, arith, inl, inr, Bool, true, Option, Some, None}
+use Rattle.std.specs.Prelude.{slice_get}
+use Rattle.std.specs.Int.{bit_at}
+use Rattle.std.proofs.lemmas.Bool.{cases_eq, false≢true, and_parts, and_from}
+use Rattle.circuit.specs.Signal.{Digits}
+use Rattle.circuit.specs.Valuation.{State, drive_of, cell_digit, given, driven, digit_within, IsValuation}
+use Rattle.circuit.specs.Free.{Test, all_below, sig_free, cell_free, by_free, drive_free, free_within}
+use Rattle.circuit.specs.declared.netlist.Circuit.{Circuit}
+use Rattle.circuit.specs.declared.netlist.Drive.{Drive}
+use Rattle.circuit.specs.declared.netlist.Cell.{Cell}
+use Rattle.circuit.specs.declared.netlist.By.{By}
+use Rattle.circuit.specs.declared.netlist.By.TheVariants as by
+use Rattle.circuit.specs.declared.netlist.Piece.{Piece}
+use Rattle.circuit.specs.declared.netlist.Piece.TheVariants as piece
+use Rattle.circuit.proofs.Same.{Reads, cell_same}
+
+all_at : (p : ℕ → Bool) (n : ℕ) → all_below p n ≡ true → (k : ℕ) → k < n → p k ≡ true
+unfolding all_below
+all_at p zero h k lt = absurd (omega (arith, lt))
+all_at p (suc n) h k lt = elim (cases_eq k n) [
+  | inl e ↦ ap p e ∙ (and_parts (p n) (all_below p n) h).0
+  | inr ne ↦ all_at p n (and_parts (p n) (all_below p n) h).1 k (omega (arith, lt, ne))
+]
+
+all_from : (p : ℕ → Bool) (n : ℕ) → ((k : ℕ) → k < n → p k ≡ true) → all_below p n ≡ true
+unfolding all_below
+all_from p zero h = refl
+all_from p (suc n) h = and_from (p n) (all_below p n) (h n (omega arith)) (all_from p n (λ k lt. h k (omega (arith, lt))))
+
+-- a sig is free where each bit that it reads is
+pub sig_reads : (free : Test) (ps : List Piece) → sig_free free ps ≡ true → (net bit : ℕ) → Reads ps net bit → free net bit ≡ true
+unfolding sig_free Reads
+sig_reads free [] h net bit r = absurd r
+sig_reads free (piece.Const v ∷ ps) h net bit r = sig_reads free ps h net bit r
+sig_reads free (piece.Part n at w ∷ ps) h net bit (inl r) =
+    let a : free n (at + (bit - at)) ≡ true = all_at (λ j. free n (at + j)) w (and_parts (all_below (λ j. free n (at + j)) w) (sig_free free ps) h).0 (bit - at) (omega (arith, r.1, r.2)) in
+    let e : at + (bit - at) ≡ bit = omega (arith, r.1) in
+    sym (ap (λ n. free n bit) r.0) ∙ sym (ap (free n) e) ∙ a
+sig_reads free (piece.Part n at w ∷ ps) h net bit (inr r) =
+    sig_reads free ps (and_parts (all_below (λ j. free n (at + j)) w) (sig_free free ps) h).1 net bit r
+
+pub sig_from : (free : Test) (ps : List Piece) → ((net bit : ℕ) → Reads ps net bit → free net bit ≡ true) → sig_free free ps ≡ true
+unfolding sig_free Reads
+sig_from free [] h = refl
+sig_from free (piece.Const v ∷ ps) h = sig_from free ps h
+sig_from free (piece.Part n at w ∷ ps) h =
+    and_from (all_below (λ j. free n (at + j)) w) (sig_free free ps)
+    (all_from (λ j. free n (at + j)) w (λ k lt. h n (at + k) (inl (refl, omega arith, omega (arith, lt)))))
+    (sig_from free ps (λ net bit r. h net bit (inr r)))
+
+pub cell_up : (f g : Test) → ((net bit : ℕ) → f net bit ≡ true → g net bit ≡ true) → (o : Option Cell) → cell_free f o ≡ true → cell_free g o ≡ true
+cell_up f g up None h = refl
+cell_up f g up (Some c) h =
+    let p = and_parts (sig_free f c.a) (sig_free f c.b) h in
+    and_from (sig_free g c.a) (sig_free g c.b)
+    (sig_from g c.a (λ net bit r. up net bit (sig_reads f c.a p.0 net bit r)))
+    (sig_from g c.b (λ net bit r. up net bit (sig_reads f c.b p.1 net bit r)))
+
+by_up : (c : Circuit) (f g : Test) → ((net bit : ℕ) → f net bit ≡ true → g net bit ≡ true) → (b : By) (i : ℕ) → by_free c f b i ≡ true → by_free c g b i ≡ true
+by_up c f g up (by.Const v) i h = h
+by_up c f g up (by.Input n at) i h = h
+by_up c f g up (by.Wire n at) i h = up n (at + i) h
+by_up c f g up (by.Cell n at) i h = cell_up f g up (slice_get c.cells n) h
+by_up c f g up (by.Reg n at) i h = h
+
+pub drive_up : (c : Circuit) (f g : Test) → ((net bit : ℕ) → f net bit ≡ true → g net bit ≡ true) → (bit : ℕ) (m : Option Drive) → drive_free c f bit m ≡ true → drive_free c g bit m ≡ true
+drive_up c f g up bit None h = h
+drive_up c f g up bit (Some d) h = by_up c f g up d.by (bit - d.at) h
+
+pub free_more : (c : Circuit) (s net bit : ℕ) → free_within c s net bit ≡ true → free_within c (suc s) net bit ≡ true
+unfolding free_within
+free_more c zero net bit h = absurd (false≢true h)
+free_more c (suc s) net bit h = drive_up c (free_within c s) (free_within c (suc s)) (free_more c s) bit (drive_of c net bit) h
+
+pub free_keeps : (c : Circuit) (s : ℕ) → ((net bit : ℕ) → free_within c (suc s) net bit ≡ true → free_within c s net bit ≡ true) → (net bit : ℕ) → free_within c (suc (suc s)) net bit ≡ true → free_within c (suc s) net bit ≡ true
+unfolding free_within
+free_keeps c s down net bit h = drive_up c (free_within c (suc s)) (free_within c s) down bit (drive_of c net bit) h
+
+pub free_later : (c : Circuit) (s k net bit : ℕ) → free_within c s net bit ≡ true → free_within c (k + s) net bit ≡ true
+free_later c s zero net bit h = subst (λ (n : ℕ). free_within c n net bit ≡ true) (let z : s ≡ 0 + s = omega arith in z) h
+free_later c s (suc k) net bit h = subst (λ (n : ℕ). free_within c n net bit ≡ true) (let z : suc (k + s) ≡ suc k + s = omega arith in z) (free_more c (k + s) net bit (free_later c s k net bit h))
+
+-- ---- the digit of a free bit stays
+module _ (c : Circuit) (state : State) (inputs : List ℕ) (free : Test) (d e : Digits) (same : (net bit : ℕ) → free net bit ≡ true → d net bit ≡ e net bit) where
+  cell_stays : (o : Option Cell) → cell_free free o ≡ true → (i : ℕ) → cell_digit d o i ≡ cell_digit e o i
+  cell_stays None h i = refl
+  cell_stays (Some x) h i =
+      let p = and_parts (sig_free free x.a) (sig_free free x.b) h in
+      ap (λ n. bit_at n i) (cell_same x d e (λ net bit r. same net bit (elim r [ inl a ↦ sig_reads free x.a p.0 net bit a | inr b ↦ sig_reads free x.b p.1 net bit b ])))
+
+  given_stays : (b : By) (i : ℕ) → by_free c free b i ≡ true → given c state inputs d b i ≡ given c state inputs e b i
+  given_stays (by.Const v) i h = refl
+  given_stays (by.Input n at) i h = refl
+  given_stays (by.Wire n at) i h = same n (at + i) h
+  given_stays (by.Cell n at) i h = cell_stays (slice_get c.cells n) h (at + i)
+  given_stays (by.Reg n at) i h = refl
+
+  pub driven_stays : (bit : ℕ) (m : Option Drive) → drive_free c free bit m ≡ true → driven c state inputs d bit m ≡ driven c state inputs e bit m
+  driven_stays bit None h = refl
+  driven_stays bit (Some x) h = given_stays x.by (bit - x.at) h
+
+pub digit_stays : (c : Circuit) (state : State) (inputs : List ℕ) (s net bit : ℕ) → free_within c s net bit ≡ true → digit_within c state inputs (suc s) net bit ≡ digit_within c state inputs s net bit
+unfolding free_within digit_within
+digit_stays c state inputs zero net bit h = absurd (false≢true h)
+digit_stays c state inputs (suc s) net bit h =
+    driven_stays c state inputs (free_within c s) (digit_within c state inputs (suc s)) (digit_within c state inputs s) (digit_stays c state inputs s) bit (drive_of c net bit) h
+
+-- where all bits are free within some steps, the digits after them are a valuation
+pub valuation_from_free : (c : Circuit) (state : State) (inputs : List ℕ) (s : ℕ) → ((net bit : ℕ) → free_within c s net bit ≡ true) → IsValuation c state inputs (digit_within c state inputs s)
+unfolding digit_within
+valuation_from_free c state inputs s all net bit = sym (digit_stays c state inputs s net bit (all net bit))
+
+-- a free bit has the same digit in all valuations
+pub free_unique : (c : Circuit) (state : State) (inputs : List ℕ) (d e : Digits) → IsValuation c state inputs d → IsValuation c state inputs e → (s net bit : ℕ) → free_within c s net bit ≡ true → d net bit ≡ e net bit
+unfolding free_within
+free_unique c state inputs d e vd ve zero net bit h = absurd (false≢true h)
+free_unique c state inputs d e vd ve (suc s) net bit h =
+    vd net bit ∙ driven_stays c state inputs (free_within c s) d e (free_unique c state inputs d e vd ve s) bit (drive_of c net bit) h ∙ sym (ve net bit)

@@ -1,0 +1,5 @@
+pub mod Same
+pub mod Freed
+pub mod Counting
+pub mod Listed
+pub mod Length

@@ -1,0 +1,36 @@
+-- A signal and a cell depend on nothing but the bits that they read.
+use Rattle.std.proofs.Common.{◌≡◌, ℕ, zero, suc, ◌+◌, ◌*◌, ◌^◌, ◌<◌, ◌≤◌, ◌⊎◌, List, [], ◌∷◌, refl, ap, arith, inl, inr}
+use Rattle.circuit.specs.Signal.{Digits, gathered, sig_number}
+use Rattle.circuit.specs.Output.{output}
+use Rattle.circuit.specs.declared.netlist.Cell.{Cell}
+use Rattle.circuit.specs.declared.netlist.Piece.{Piece}
+use Rattle.circuit.specs.declared.netlist.Piece.TheVariants as piece
+
+-- a signal reads a bit
+unfoldable pub Reads : List Piece → ℕ → ℕ → Type 0
+Reads [] net bit = ⊥
+Reads (piece.Const v ∷ ps) net bit = Reads ps net bit
+Reads (piece.Part n at width ∷ ps) net bit = ((n ≡ net) × (at ≤ bit) × (bit < at + width)) ⊎ Reads ps net bit
+
+gathered_same : (w : ℕ) (d e : ℕ → ℕ) → ((j : ℕ) → j < w → d j ≡ e j) → gathered d w ≡ gathered e w
+unfolding gathered
+gathered_same zero d e h = refl
+gathered_same (suc w) d e h =
+    let t : gathered d w ≡ gathered e w = gathered_same w d e (λ j lt. h j (omega arith)) in
+    let a : d w ≡ e w = h w (omega arith) in cc (t, a)
+
+pub sig_same : (ps : List Piece) (d e : Digits) → ((net bit : ℕ) → Reads ps net bit → d net bit ≡ e net bit) → sig_number d ps ≡ sig_number e ps
+unfolding sig_number Reads
+sig_same [] d e h = refl
+sig_same (piece.Const v ∷ ps) d e h =
+    let t : sig_number d ps ≡ sig_number e ps = sig_same ps d e h in ap (λ n. n * 2 ^ v.width + v.number) t
+sig_same (piece.Part n at w ∷ ps) d e h =
+    let t : sig_number d ps ≡ sig_number e ps = sig_same ps d e (λ net bit r. h net bit (inr r)) in
+    let g : gathered (λ j. d n (at + j)) w ≡ gathered (λ j. e n (at + j)) w = gathered_same w (λ j. d n (at + j)) (λ j. e n (at + j)) (λ j lt. h n (at + j) (inl (refl, omega arith, omega arith))) in
+    cc (t, g)
+
+pub cell_same : (c : Cell) (d e : Digits) → ((net bit : ℕ) → Reads c.a net bit ⊎ Reads c.b net bit → d net bit ≡ e net bit) → output d c ≡ output e c
+cell_same c d e h =
+    let a : sig_number d c.a ≡ sig_number e c.a = sig_same c.a d e (λ net bit r. h net bit (inl r)) in
+    let b : sig_number d c.b ≡ sig_number e c.b = sig_same c.b d e (λ net bit r. h net bit (inr r)) in
+    cc (a, b)

@@ -1,0 +1,6 @@
+pub mod Signal
+pub mod Output
+pub mod Valuation
+pub mod Free
+pub mod Next
+pub mod Run

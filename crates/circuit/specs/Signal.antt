@@ -1,0 +1,34 @@
+-- The number that a signal has under a valuation of the nets.
+use Rattle.std.specs.Prelude.{ℕ, zero, suc, ◌+◌, ◌*◌, ◌^◌, List, [], ◌∷◌, sum_by, slice_index}
+use Rattle.std.specs.Int.{bit_at}
+use Rattle.circuit.specs.declared.netlist.Piece.{Piece}
+use Rattle.circuit.specs.declared.netlist.Piece.TheVariants as piece
+
+-- the digit of each bit of each net
+abbrev pub Digits : Type 0
+Digits = ℕ → ℕ → ℕ
+
+-- the digits of nets that have these numbers
+abbrev pub digits_of_nets : List ℕ → Digits
+digits_of_nets numbers net bit = bit_at (slice_index numbers net) bit
+
+-- the number with `width` digits, the least first
+unfoldable pub gathered : (ℕ → ℕ) → ℕ → ℕ
+gathered digit zero = 0
+gathered digit (suc width) = digit width * 2 ^ width + gathered digit width
+
+abbrev pub piece_width : Piece → ℕ
+piece_width (piece.Const v) = v.width
+piece_width (piece.Part net at width) = width
+
+abbrev pub piece_number : Digits → Piece → ℕ
+piece_number digits (piece.Const v) = v.number
+piece_number digits (piece.Part net at width) = gathered (λ j. digits net (at + j)) width
+
+abbrev pub sig_width : List Piece → ℕ
+sig_width pieces = sum_by piece_width pieces
+
+-- the first piece is the least significant
+unfoldable pub sig_number : Digits → List Piece → ℕ
+sig_number digits [] = 0
+sig_number digits (p ∷ ps) = sig_number digits ps * 2 ^ piece_width p + piece_number digits p

@@ -1,0 +1,31 @@
+//! Laws of the meaning of circuits.
+ghost use Rattle.std.specs.Prelude.{◌≡◌, ◌≤◌, ◌<◌, ℕ, ◌-◌, List, true, Some, None, is_some, slice_get};
+ghost use Rattle.circuit.specs.Signal.{Digits};
+ghost use Rattle.circuit.specs.Valuation.{State, IsValuation, covers, digit_at, given};
+ghost use Rattle.circuit.specs.Run.{Run, run_length, standing_after, standing_at};
+ghost use Rattle.circuit.specs.Free.{IsInOrder};
+ghost use Rattle.circuit.specs.declared.netlist.Drive.{Drive};
+
+use crate::netlist::Circuit;
+
+/// Where each bit has one driver and no bit depends on itself, each bit has exactly what its driver
+/// gives, and nothing else has that property.
+pub fn one_valuation(circuit: &Circuit)
+    requires { IsInOrder circuit.now }
+    ensures valuation { (state : State) (inputs : List ℕ) → IsValuation circuit.now state inputs (digit_at circuit.now state inputs) }
+    ensures driver { (state : State) (inputs : List ℕ) (i net bit : ℕ) (d : Drive) → slice_get circuit.now.drives i ≡ Some d → covers net bit d ≡ true
+        → digit_at circuit.now state inputs net bit ≡ given circuit.now state inputs (digit_at circuit.now state inputs) d.by (bit - d.at) }
+    ensures only { (state : State) (inputs : List ℕ) (digits : Digits) → IsValuation circuit.now state inputs digits
+        → (net bit : ℕ) → digits net bit ≡ digit_at circuit.now state inputs net bit }
+{
+    let _ = circuit;
+}
+
+/// The length of a run is the place of its first sample that does not settle, or else the number of its
+/// samples.
+pub fn length_of_run()
+    ensures within { (run : Run) → run_length run ≤ run.count }
+    ensures settled { (run : Run) (k : ℕ) → k < run_length run → is_some (standing_at run k) ≡ true }
+    ensures unsettled { (run : Run) → run_length run < run.count → standing_at run (run_length run) ≡ None }
+    ensures only { (run : Run) (k : ℕ) → k ≤ run.count → is_some (standing_after run k) ≡ true → (k < run.count → standing_at run k ≡ None) → run_length run ≡ k }
+{}
