@@ -1,3 +1,5 @@
+pub mod TimeTexts
 pub mod Words
 pub mod Field
 pub mod Copies
+pub mod Numerals

@@ -1,1 +1,3 @@
 pub mod BitValue
+pub mod Digits
+pub mod TimeText

@@ -3,9 +3,15 @@
 #![tactic(auto)]
 
 mod bits;
+mod digits;
+mod kinds;
 mod memory;
 mod name;
+mod time;
 
 pub use bits::Bits;
+pub use digits::write_lowest_digits;
+pub use kinds::Kinds;
 pub use memory::NoMemory;
 pub use name::Name;
+pub use time::Time;

@@ -1,0 +1,29 @@
+//! Numbers written in digits.
+ghost use Rattle.std.specs.Prelude.{◌≡◌, ◌<◌, ◌≤◌, length};
+ghost use Rattle.sim_base.specs.Digits.{digit_character, lowest_digits};
+
+/// Fills the slice with the lowest digits of the number to this base, the most significant first.
+/// Digits above 9 are lower-case letters.
+pub fn write_lowest_digits(into: &mut [u8], base: u64, number: u64)
+    requires least { 2 ≤ base }
+    requires most { base ≤ 36 }
+    ensures { into.new ≡ lowest_digits base (length into.old) number }
+{
+    let mut rest = number;
+    for at in (0..into.len()).rev() {
+        into[at] = digit_character(rest % base);
+        rest /= base;
+    }
+}
+
+fn digit_character(digit: u64) -> u8
+    requires { digit < 36 }
+    ensures { result ≡ digit_character digit }
+{
+    let digit = digit as u8;
+    if digit < 10 {
+        b'0' + digit
+    } else {
+        b'a' + (digit - 10)
+    }
+}
