@@ -44,12 +44,13 @@ pub struct Framer {
 
 impl Model for Framer {
     ghost use Rattle.std.specs.Prelude.{List, ℕ, ◌≤◌, ◌<◌, ◌+◌, ◌≢◌, drop, length, slice_index};
+    ghost use Rattle.frame_zero.specs.Packets.{limit};
 
     ghost Value = { List ℕ };
 
     ghost view = { λ f. drop f.start f.bytes.items };
 
-    ghost invariant = { λ f. (f.start ≤ f.seen) × (f.seen ≤ length f.bytes.items) × (f.seen ≤ f.start + 1048577)
+    ghost invariant = { λ f. (f.start ≤ f.seen) × (f.seen ≤ length f.bytes.items) × (f.seen ≤ f.start + (limit + 1))
         × ((k : ℕ) → f.start ≤ k → k < f.seen → slice_index f.bytes.items k ≢ 0) };
 }
 
@@ -124,7 +125,7 @@ pub fn law_of_beginnings()
 
 #[cfg(test)]
 mod tests {
-    use super::{Frame, Framer, MAX_PACKET};
+    use super::{Frame, Framer, MAX_PACKET, law_of_beginnings};
     use std::test::Fail;
 
     const GREETING: &[u8] = b"{\"type\":\"greeting\",\"version\":0}\0";
@@ -158,6 +159,7 @@ mod tests {
         assert_eq!(rt; framer.take(), Frame::Whole(b""));
         assert_eq!(rt; framer.take(), Frame::Whole(b"c"));
         assert_eq!(rt; framer.take(), Frame::NotYet);
+        law_of_beginnings();
         framer.feed(b"\0")?;
         assert_eq!(rt; framer.take(), Frame::Whole(b"de"));
         assert_eq!(rt; framer.take(), Frame::NotYet);
