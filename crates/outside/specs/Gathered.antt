@@ -1,0 +1,13 @@
+-- What a sink in memory holds, and how it answers.
+use Rattle.std.specs.Prelude.{ℕ, ◌-◌, ◌^◌, List, []}
+
+pub record Gathering : Type 0 where
+  pub bytes : List ℕ
+  pub failing : List ℕ
+  pub most : ℕ
+  pub calls : ℕ
+  pub faults : ℕ
+
+-- a sink that took nothing yet, fails at no call and takes whole pieces
+abbrev pub new_gathering : Gathering
+new_gathering = record { bytes = []; failing = []; most = 2 ^ 64 - 1; calls = 0; faults = 0 }

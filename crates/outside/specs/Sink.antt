@@ -1,0 +1,27 @@
+-- What a write to a sink says.
+use Rattle.std.specs.Prelude.{◌≡◌, ⊤, ℕ, ◌<◌, ◌≤◌, List, length, take, Option}
+use Rattle.std.specs.Io.KnownBytes.{append_known}
+use Rattle.outside.specs.Faults.{Rose}
+use Rattle.outside.specs.declared.sink.Put.{Put}
+use Rattle.outside.specs.declared.sink.Put.TheVariants as put
+
+-- a sink takes one byte of the piece at least, and all of it at most
+abbrev pub IsWithin : Put → List ℕ → Type 0
+IsWithin (put.Took n) piece = (0 < n) × (n ≤ length piece)
+IsWithin put.Failed piece = ⊤
+
+-- the bytes that were taken stand behind those that were held, where the sink tells what it holds
+abbrev pub Takes : Option (List ℕ) → Option (List ℕ) → Put → List ℕ → Type 0
+Takes before now (put.Took n) piece = now ≡ append_known before (take n piece)
+Takes before now put.Failed piece = now ≡ before
+
+-- the count rises exactly where the sink failed
+abbrev pub SinkCause : ℕ → ℕ → Put → Type 0
+SinkCause before now (put.Took n) = now ≡ before
+SinkCause before now put.Failed = (before ≤ now) × Rose before now
+
+-- some of the bytes, from the first on, were taken, and not all
+pub record TookPart (before now : Option (List ℕ)) (bytes : List ℕ) : Type 0 where
+  pub count : ℕ
+  pub not_all : count < length bytes
+  pub holds : now ≡ append_known before (take count bytes)
