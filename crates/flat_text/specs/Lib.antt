@@ -1,1 +1,5 @@
+pub mod Constants
+pub mod Words
+pub mod Lines
 pub mod Module
+pub mod Place

@@ -1,0 +1,4 @@
+pub mod BinaryDigits
+pub mod Parts
+pub mod Steps
+pub mod TextLines
