@@ -5,7 +5,7 @@
 mod laws;
 mod netlist;
 
-pub use laws::one_valuation;
+pub use laws::{length_of_run, one_valuation};
 pub use netlist::{
     By, Cell, Circuit, Drive, Item, ItemKind, Net, Op, Piece, Polarity, Reg, RegKind, Scope, Sig,
 };

@@ -1,2 +1,7 @@
+pub mod Names
+pub mod Wires
+pub mod Ports
+pub mod Cells
+pub mod Labels
 pub mod Circuit
 pub mod Flat

@@ -1,1 +1,3 @@
 pub mod Fits
+pub mod Pass
+pub mod Word

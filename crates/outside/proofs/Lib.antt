@@ -1,1 +1,2 @@
+pub mod ShelvesLemmas
 pub mod SinkLemmas

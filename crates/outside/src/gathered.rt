@@ -107,7 +107,9 @@ impl Sink for Gathered {
     {
         self.calls = one_more(self.calls);
         let count = piece.len().min(self.most);
-        if is_listed(&self.failing, self.calls) || self.bytes.extend_from_slice(&piece[..count]).is_err() {
+        if is_listed(&self.failing, self.calls)
+            || self.bytes.extend_from_slice(&piece[..count]).is_err()
+        {
             self.faults = one_more(self.faults);
             return Put::Failed;
         }

@@ -1,0 +1,9 @@
+pub mod Numbers
+pub mod Distinct
+pub mod Inserted
+pub mod Loops
+pub mod Ordered
+pub mod Elaborated
+pub mod Lists
+pub mod Grown
+pub mod Flatness

@@ -1,0 +1,7 @@
+mod Words
+mod Reading
+mod Order
+mod Given
+mod Pass
+mod Clocked
+mod Settling

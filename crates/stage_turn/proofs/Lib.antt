@@ -1,0 +1,12 @@
+pub mod Sums
+pub mod Lists
+pub mod Histories
+pub mod Views
+pub mod Taking
+pub mod Leaving
+pub mod Reading
+pub mod Cutting
+pub mod Joining
+pub mod Closing
+pub mod Opening
+pub mod TestLog
