@@ -5,3 +5,5 @@ mod Given
 mod Pass
 mod Clocked
 mod Settling
+mod FlatTest
+mod Samples

@@ -4,6 +4,8 @@
 mod clock;
 mod nets;
 mod rounds;
+#[cfg(test)]
+mod tests;
 mod word;
 
 pub use rounds::Rounds;
