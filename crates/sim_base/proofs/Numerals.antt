@@ -126,7 +126,7 @@ decimal_after_decimal = decimal_by_steps (λ n ds. decimal_after 0 ds ≡ Some n
     (λ n lt. decimal_one 0 n lt ∙ ap Some (omega arith))
     (λ n ds ge is. decimal_push 0 (n / 10) (n % 10) ds is (omega arith) ∙ ap Some (omega arith))
 
-if_some : (b : Bool) (y : Option ℕ) (n : ℕ) → cond b y None ≡ Some n → (b ≡ true) × (y ≡ Some n)
+pub if_some : (b : Bool) (y : Option ℕ) (n : ℕ) → cond b y None ≡ Some n → (b ≡ true) × (y ≡ Some n)
 if_some true y n e = (refl, e)
 if_some false y n e = cc
 

@@ -1,6 +1,7 @@
 -- A value of bits: a width, and a number below 2 to that width.
-use Rattle.std.specs.Prelude.{ℕ, ◌+◌, ◌-◌, ◌*◌, ◌^◌, List, [], ◌∷◌, Bool, ◌&&◌, nat_eq, nat_le, nat_lt, if◌then◌else◌, slice_index, ◌<◌}
+use Rattle.std.specs.Prelude.{ℕ, ◌+◌, ◌-◌, ◌*◌, ◌/◌, ◌^◌, max, Option, Some, None, option_and_then, List, [], ◌∷◌, Bool, ◌&&◌, nat_eq, nat_le, nat_lt, if◌then◌else◌, slice_index, ◌<◌}
 use Rattle.std.specs.Int.{bit_at}
+use Rattle.sim_base.specs.Digits.{hexadecimal_number}
 
 pub record BitValue : Type 0 where
   pub width : ℕ
@@ -32,3 +33,11 @@ digit_after_copy at from from_at n old j = if nat_le at j && nat_lt j (at + n) t
 -- each is a word of 64 bits
 abbrev pub AreWords : List ℕ → Type 0
 AreWords ws = (k : ℕ) → slice_index ws k < 2 ^ 64
+
+-- how many hexadecimal digits a value of this width takes
+abbrev pub hexadecimal_length : ℕ → ℕ
+hexadecimal_length width = max 1 ((width + 3) / 4)
+
+-- the value of this width that a text of hexadecimal digits stands for, or none
+abbrev pub hexadecimal_value : ℕ → List ℕ → Option BitValue
+hexadecimal_value width text = option_and_then (λ n. if nat_lt n (2 ^ width) then Some (bit_value width n) else None) (hexadecimal_number text)

@@ -1,3 +1,4 @@
 pub mod BitValue
 pub mod Digits
 pub mod TimeText
+pub mod Shape

@@ -35,6 +35,13 @@ impl Bits {
         Ok(Bits { words, width })
     }
 
+    /// Makes the number 0.
+    pub fn clear(&mut self)
+        ensures { self.new ≡ zeros self.old.width }
+    {
+        self.words.fill(0);
+    }
+
     /// The width in bits.
     pub fn width(&self) -> u32
         ensures value { result ≡ self.now.width }

@@ -16,7 +16,7 @@ pub fn write_lowest_digits(into: &mut [u8], base: u64, number: u64)
     }
 }
 
-fn digit_character(digit: u64) -> u8
+pub(crate) fn digit_character(digit: u64) -> u8
     requires { digit < 36 }
     ensures { result ≡ digit_character digit }
 {

@@ -4,9 +4,14 @@
 
 mod bits;
 mod digits;
+mod hexadecimal;
 mod kinds;
 mod memory;
 mod name;
+mod shape;
+mod steps;
+#[cfg(test)]
+mod tests;
 mod time;
 
 pub use bits::Bits;
@@ -14,4 +19,6 @@ pub use digits::write_lowest_digits;
 pub use kinds::Kinds;
 pub use memory::NoMemory;
 pub use name::Name;
+pub use shape::Shape;
+pub use steps::Steps;
 pub use time::Time;
