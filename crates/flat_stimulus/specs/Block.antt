@@ -1,12 +1,8 @@
 -- A block of rows that is repeated, and the samples that it gives.
-use Rattle.std.specs.Prelude.{ℕ, ◌+◌, ◌*◌, ◌/◌, ◌%◌, List, [], length, map, slice_index, slice_index_or, Option, None}
+use Rattle.std.specs.Prelude.{◌≡◌, ℕ, ◌+◌, ◌*◌, ◌/◌, ◌%◌, ◌<◌, ◌≤◌, List, [], length, map, Some, slice_get, slice_index, slice_index_or}
+use Rattle.sim_base.specs.TimeText.{largest_time}
 use Rattle.circuit.specs.Run.{Row}
-use Rattle.circuit.specs.declared.netlist.Circuit.{Circuit}
-
--- a time behind the block's start in femtoseconds, and the numbers of the columns
-pub record BlockRow : Type 0 where
-  pub offset : ℕ
-  pub values : List ℕ
+use Rattle.flat_stimulus.specs.declared.row.BlockRow.{BlockRow}
 
 -- `columns` has for each input of the circuit the number of its column
 pub record Block : Type 0 where
@@ -27,6 +23,11 @@ row_of b k =
     let row = slice_index_or b.rows (k % length b.rows) no_row in
     record { time = k / length b.rows * b.period + row.offset; inputs = map (λ column. slice_index row.values column) b.columns }
 
--- stub
-unfoldable pub block_of : List ℕ → Circuit → Option Block
-block_of text c = None
+-- what holds of a block that was read: it has rows, its samples and its end are within the limits, each row
+-- comes before the period ends and has a value in each column that an input has
+pub record IsBlock (b : Block) : Type 0 where
+  pub some : 1 ≤ length b.rows
+  pub few : sample_count b ≤ 16777216
+  pub ends : b.repeats * b.period ≤ largest_time
+  pub before : (i : ℕ) (row : BlockRow) → slice_get b.rows i ≡ Some row → row.offset < b.period
+  pub values : (i : ℕ) (row : BlockRow) → slice_get b.rows i ≡ Some row → (n : ℕ) → n < length b.columns → slice_index b.columns n < length row.values

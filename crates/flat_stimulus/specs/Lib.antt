@@ -1,1 +1,3 @@
+pub mod Words
 pub mod Block
+pub mod Text

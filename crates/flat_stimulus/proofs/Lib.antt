@@ -1,0 +1,5 @@
+pub mod Lists
+pub mod Options
+pub mod Columns
+pub mod Values
+pub mod Facts
