@@ -10,7 +10,10 @@ ghost use Rattle.cxxsim.specs.TraceText.{header, item_line, item_width, kind_wid
 use circuit::{Circuit, Item, ItemKind};
 use flat_rounds::Rounds;
 use itoa::Buffer;
-use sim_base::{NoMemory, Time};
+use sim_base::{NoMemory, Time, write_lowest_digits};
+
+/// A value of 64 bits has so many hexadecimal digits.
+const MOST_DIGITS: usize = 16;
 
 /// Puts a number in decimal behind the text.
 fn push_decimal(text: &mut Vec<u8>, number: u64) -> Result<(), NoMemory>
@@ -36,7 +39,13 @@ fn push_value(text: &mut Vec<u8>, width: u32, number: u64) -> Result<(), NoMemor
     requires { width ≤ 64 }
     ensures { OnOk result (text.new.items ≡ text.old.items ++ value_text width number) }
 {
-    Err(NoMemory)
+    let digits = (width as usize + 3) / 4;
+    let digits = digits.max(1);
+    let mut buffer = [b'0'; MOST_DIGITS];
+    write_lowest_digits(&mut buffer[..digits], 16, number);
+    text.push(b' ')?;
+    text.extend_from_slice(&buffer[..digits])?;
+    Ok(())
 }
 
 /// The net of a node.
