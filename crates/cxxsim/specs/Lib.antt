@@ -1,5 +1,0 @@
-pub mod Words
-pub mod TraceText
-pub mod Printed
-pub mod Trace
-pub mod Program
