@@ -1,0 +1,8 @@
+use Rattle.std.proofs.Common.{◌≡◌, ◌++◌, take}
+use Rattle.std.specs.List.{flat_map}
+use Rattle.circuit.specs.Run.{item_number}
+use Rattle.cxxsim.specs.TraceText.{item_width, value_text}
+use Rattle.cxxsim.proofs.print.push_values.Given as goal
+
+abbrev pub invariant-loop-item : goal.invariant-loop-item
+invariant-loop-item l = l.text.items ≡ l.initial.text.items ++ flat_map (λ i. value_text (item_width l.circuit i) (item_number l.rounds.nets i.kind)) (take l.item-index l.item-items)

@@ -1,0 +1,5 @@
+pub mod Words
+pub mod TraceText
+pub mod Printed
+pub mod Trace
+pub mod Program

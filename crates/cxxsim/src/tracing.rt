@@ -1,0 +1,111 @@
+//! The trace of a run.
+ghost use Rattle.std.specs.Prelude.{◌≡◌, ◌<◌, ◌≤◌, ◌++◌, ◌⊎◌, [], None, Ok, Some, length, false, suc, true, IfOk, IsErr, IsErrOf, nat_lt};
+ghost use Rattle.std.specs.Io.KnownBytes.{append_known};
+ghost use Rattle.circuit.specs.Run.{Run, run_length, standing_after};
+ghost use Rattle.flat_design.specs.Flat.{IsFlat};
+ghost use Rattle.flat_rounds.specs.Fits.{AreInputs, IsStandingOf};
+ghost use Rattle.flat_stimulus.specs.Block.{row_of, sample_count};
+ghost use Rattle.outside.specs.Faults.{Rose};
+ghost use Rattle.cxxsim.specs.Trace.{AreSamples, run_under};
+ghost use Rattle.cxxsim.specs.TraceText.{sample_line, trace_text};
+
+use crate::print::{push_header, push_last_line, push_sample};
+use crate::refusal::TraceFault;
+use circuit::{Circuit, length_of_run};
+use flat_rounds::Rounds;
+use flat_stimulus::FlatStimulus;
+use outside::{Sink, put_all};
+use sim_base::NoMemory;
+use std::alloc::Global;
+
+/// How many bytes are gathered before they are handed to the output.
+const ENOUGH: usize = 65_536;
+
+/// Goes on by sample `k` and puts its line behind the text, where it settles.
+fn trace_sample(
+    circuit: &Circuit,
+    stimulus: &FlatStimulus,
+    k: u64,
+    rounds: &mut Rounds,
+    inputs: &mut [u64],
+    text: &mut Vec<u8>,
+) -> Result<bool, NoMemory>
+    requires flat { IsFlat circuit.now }
+    requires samples { AreSamples circuit.now stimulus.now }
+    requires there { k < sample_count stimulus.now }
+    requires room { length inputs.old ≡ length circuit.now.inputs }
+    requires fits { IsStandingOf circuit.now rounds.old }
+    ensures fits { IsStandingOf circuit.now rounds.new }
+    ensures room { length inputs.new ≡ length inputs.old }
+    ensures settled { result ≡ Ok true → standing_after (run_under circuit.now stimulus.now) k ≡ Some rounds.old
+        → (standing_after (run_under circuit.now stimulus.now) (suc k) ≡ Some rounds.new) × (text.new.items ≡ text.old.items ++ sample_line (run_under circuit.now stimulus.now) k) }
+    ensures unsettled { result ≡ Ok false → standing_after (run_under circuit.now stimulus.now) k ≡ Some rounds.old
+        → (standing_after (run_under circuit.now stimulus.now) (suc k) ≡ None) × (text.new.items ≡ text.old.items) }
+{
+    let time = stimulus.row(k, inputs);
+    let settled = rounds.sample(circuit, inputs);
+    if settled {
+        push_sample(text, circuit, time, rounds)?;
+    }
+    Ok(settled)
+}
+
+/// Hands the text to the output.
+fn flush<O: Sink>(text: &mut Vec<u8>, out: &mut O) -> Result<(), TraceFault>
+    ensures ok { IfOk result (λ _. (O.held out.new ≡ append_known (O.held out.old) text.old.items) × (text.new.items ≡ [])) }
+    ensures write { IsErrOf result TraceFault.Write → Rose (O.faults out.old) (O.faults out.new) }
+    ensures only { IsErr result → IsErrOf result TraceFault.Write }
+    ensures later { O.faults out.old ≤ O.faults out.new }
+{
+    put_all(out, text).map_err(|_| TraceFault::Write)?;
+    text.clear();
+    Ok(())
+}
+
+/// Hands the text to the output where it is long enough.
+fn flush_long<O: Sink>(text: &mut Vec<u8>, out: &mut O) -> Result<(), TraceFault>
+    ensures ok { IfOk result (λ _. append_known (O.held out.new) text.new.items ≡ append_known (O.held out.old) text.old.items) }
+    ensures write { IsErrOf result TraceFault.Write → Rose (O.faults out.old) (O.faults out.new) }
+    ensures only { IsErr result → IsErrOf result TraceFault.Write }
+    ensures later { O.faults out.old ≤ O.faults out.new }
+{
+    if text.len() < ENOUGH {
+        return Ok(());
+    }
+    flush(text, out)
+}
+
+/// Prints the trace of the circuit under the stimulus, and answers whether a sample did not settle.
+pub fn write_trace<O: Sink>(
+    alloc: Global,
+    circuit: &Circuit,
+    stimulus: &FlatStimulus,
+    out: &mut O,
+) -> Result<bool, TraceFault>
+    requires flat { IsFlat circuit.now }
+    requires samples { AreSamples circuit.now stimulus.now }
+    ensures ends { IfOk result (λ unsettled. unsettled ≡ nat_lt (run_length (run_under circuit.now stimulus.now)) (sample_count stimulus.now)) }
+    ensures printed { IfOk result (λ unsettled. O.held out.new ≡ append_known (O.held out.old) (trace_text (run_under circuit.now stimulus.now) (run_length (run_under circuit.now stimulus.now)) unsettled)) }
+    ensures write { IsErrOf result TraceFault.Write → Rose (O.faults out.old) (O.faults out.new) }
+    ensures only { IsErr result → IsErrOf result TraceFault.Write ⊎ IsErrOf result TraceFault.NoMemory }
+    ensures later { O.faults out.old ≤ O.faults out.new }
+{
+    length_of_run();
+    let mut rounds = Rounds::new(alloc, circuit)?;
+    let mut inputs = vec![in alloc; 0u64; circuit.inputs.len()].map_err(NoMemory::from)?;
+    let mut text = Vec::new(alloc);
+    push_header(&mut text, circuit)?;
+    let count = stimulus.count();
+    let mut done = 0;
+    while done < count {
+        if !trace_sample(circuit, stimulus, done, &mut rounds, &mut inputs, &mut text)? {
+            break;
+        }
+        done += 1;
+        flush_long(&mut text, out)?;
+    }
+    let unsettled = done < count;
+    push_last_line(&mut text, unsettled, done)?;
+    flush(&mut text, out)?;
+    Ok(unsettled)
+}
