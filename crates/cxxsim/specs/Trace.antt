@@ -6,7 +6,8 @@ use Rattle.circuit.specs.Run.{Run, run_length}
 use Rattle.circuit.specs.declared.netlist.Circuit.{Circuit}
 use Rattle.flat_text.specs.Module.{module_of}
 use Rattle.flat_design.specs.Circuit.{circuit_of}
-use Rattle.flat_stimulus.specs.Block.{Block, block_of, row_of, sample_count}
+use Rattle.flat_stimulus.specs.Block.{Block, row_of, sample_count}
+use Rattle.flat_stimulus.specs.Text.{block_of}
 use Rattle.outside.specs.Shelf.{File, IsOf, IsLonger}
 use Rattle.cxxsim.specs.TraceText.{trace_text}
 use Rattle.cxxsim.specs.Words.{TraceCommand}

@@ -75,6 +75,14 @@ fn flush_long<O: Sink>(text: &mut Vec<u8>, out: &mut O) -> Result<(), TraceFault
     flush(text, out)
 }
 
+/// So many words that are 0.
+fn zeros(alloc: Global, count: usize) -> Result<Vec<u64>, NoMemory>
+    ensures { IfOk result (λ words. length words.items ≡ count) }
+{
+    let words = vec![in alloc; 0u64; count]?;
+    Ok(words)
+}
+
 /// Prints the trace of the circuit under the stimulus, and answers whether a sample did not settle.
 pub fn write_trace<O: Sink>(
     alloc: Global,
@@ -92,7 +100,7 @@ pub fn write_trace<O: Sink>(
 {
     length_of_run();
     let mut rounds = Rounds::new(alloc, circuit)?;
-    let mut inputs = vec![in alloc; 0u64; circuit.inputs.len()].map_err(NoMemory::from)?;
+    let mut inputs = zeros(alloc, circuit.inputs.len())?;
     let mut text = Vec::new(alloc);
     push_header(&mut text, circuit)?;
     let count = stimulus.count();
