@@ -15,7 +15,7 @@ mod tests;
 mod time;
 
 pub use bits::Bits;
-pub use digits::write_lowest_digits;
+pub use digits::{number_in_digits, write_lowest_digits};
 pub use kinds::Kinds;
 pub use memory::NoMemory;
 pub use name::Name;

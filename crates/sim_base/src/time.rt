@@ -1,9 +1,8 @@
 //! Times in femtoseconds, and their text.
 ghost use Rattle.std.specs.Prelude.{◌≡◌, ◌+◌, ◌-◌, ◌^◌, ◌<◌, ◌≤◌, ◌==◌, Some, length, position, take};
-ghost use Rattle.sim_base.specs.Digits.{digits_number, lowest_digits};
 ghost use Rattle.sim_base.specs.TimeText.{largest_time, read_time, time_of, time_text};
 
-use crate::digits::write_lowest_digits;
+use crate::digits::{number_in_digits, write_lowest_digits};
 use itoa::Buffer;
 use std::marker::Model;
 
@@ -100,22 +99,4 @@ fn dot_of(text: &[u8]) -> Option<usize>
     ensures { result ≡ position (λ c. c == 46) text.now }
 {
     text.iter().position(|byte| *byte == b'.')
-}
-
-/// The number of 1 to `most` decimal digits.
-fn number_in_digits(text: &[u8], most: usize) -> Option<u64>
-    requires { most ≤ 18 }
-    ensures { result ≡ digits_number most text.now }
-{
-    if text.is_empty() || text.len() > most {
-        return None;
-    }
-    let mut number = 0u64;
-    for byte in text {
-        if !byte.is_ascii_digit() {
-            return None;
-        }
-        number = number * 10 + u64::from(*byte - b'0');
-    }
-    Some(number)
 }

@@ -1,6 +1,6 @@
 use Rattle.std.proofs.Common.{◌≡◌, ◌^◌, ◌<◌, drop}
 use Rattle.sim_base.specs.Digits.{decimal_after}
-use Rattle.sim_base.proofs.time.number_in_digits.Given as goal
+use Rattle.sim_base.proofs.digits.number_in_digits.Given as goal
 
 abbrev pub invariant-loop-byte : goal.invariant-loop-byte
 invariant-loop-byte l = record {

@@ -3,8 +3,8 @@ use Rattle.std.specs.Char.{is_ascii_digit}
 use Rattle.std.proofs.lemmas.Bool.Decides.{nat_tests}
 use Rattle.sim_base.specs.Digits.{decimal_after}
 use Rattle.sim_base.proofs.Numerals.{digits_more, digits_none, digits_all, digits_number_within, digits_number_empty, digits_number_long, digits_fit, digits_below, digit_below}
-use Rattle.sim_base.proofs.time.number_in_digits.Goals.{then-is_empty-via-then-is_empty, then-is_empty-via-else-is_empty+then-text-most}
-use Rattle.sim_base.proofs.time.number_in_digits.Goals as goal
+use Rattle.sim_base.proofs.digits.number_in_digits.Goals.{then-is_empty-via-then-is_empty, then-is_empty-via-else-is_empty+then-text-most}
+use Rattle.sim_base.proofs.digits.number_in_digits.Goals as goal
 
 pub returns-then-is_empty : goal.returns-then-is_empty
 returns-then-is_empty c =
