@@ -1,0 +1,6 @@
+pub mod Characters
+pub mod Numbers
+pub mod Constants
+pub mod Strings
+pub mod Pieces
+pub mod Tokens
