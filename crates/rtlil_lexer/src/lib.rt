@@ -2,8 +2,10 @@
 //! strings, signs and the ends of lines, each with its place.
 #![tactic(auto)]
 
+mod classes;
 mod constant;
 mod fault;
+mod number;
 mod piece;
 mod place;
 mod quoted;
