@@ -1,6 +1,5 @@
-use Rattle.std.proofs.Common.{◌≡◌, ℕ, ◌∙◌, refl, sym, ap, None, Option, get_or, drop, arith}
-use Rattle.rtlil_lexer.specs.Strings.{body_length}
-use Rattle.rtlil_lexer.proofs.Escapes.{further, further_none, body_stops, body_closes, body_goes_on, body_keeps, body_end}
+use Rattle.std.proofs.Common.{◌∙◌, refl, sym, ap, get_or}
+use Rattle.rtlil_lexer.proofs.Escapes.{further, body_stops, body_closes, body_goes_on, body_keeps, body_end}
 use Rattle.rtlil_lexer.proofs.strings.body_length.Goals.{else-byte-eq34-via-then-byte-eq34+else-not-escaped, else-byte-eq34-via-else-byte-eq34}
 use Rattle.rtlil_lexer.proofs.strings.body_length.Goals as goal
 
