@@ -1,2 +1,4 @@
 pub mod Decimals
+pub mod Escapes
 pub mod Fronts
+pub mod Zeros

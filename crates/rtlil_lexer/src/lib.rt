@@ -9,7 +9,9 @@ mod number;
 mod piece;
 mod place;
 mod quoted;
+mod sound;
 mod spelling;
+mod strings;
 mod token;
 
 ghost use Rattle.std.specs.Prelude.{◌≡◌};

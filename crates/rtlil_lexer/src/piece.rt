@@ -12,7 +12,9 @@ use crate::classes::{
 use crate::constant::{Constant, WIDEST};
 use crate::fault::TextFaultKind;
 use crate::number::{capped_decimal, integer_of};
+use crate::quoted::Quoted;
 use crate::spelling::Spelling;
+use crate::strings::body_of;
 use crate::token::TokenKind;
 
 /// A token, or white space or a comment between tokens, and how many bytes it takes.
@@ -190,4 +192,53 @@ fn sign_at<'a>(byte: u8) -> Result<Piece<'a>, TextFaultKind>
         _ => return Err(TextFaultKind::BadByte),
     };
     Ok(Piece::token(kind, 1))
+}
+
+/// A string that takes so many bytes, where each of its escapes is a byte.
+fn string_first<'a>(size: usize, string: Option<Quoted<'a>>) -> Result<Piece<'a>, TextFaultKind>
+    ensures { result ≡ string_first size string.entry }
+{
+    match string {
+        None => Err(TextFaultKind::BadString),
+        Some(string) => Ok(Piece::token(TokenKind::String(string), size)),
+    }
+}
+
+/// A string, from behind its first quote on.
+#[tactic(auto, unfolding(crate::specs::Pieces::string_at))]
+fn string_at(rest: &[u8]) -> Result<Piece<'_>, TextFaultKind>
+    ensures { result ≡ string_at rest.now }
+{
+    match body_of(rest) {
+        None => Err(TextFaultKind::BadString),
+        Some(body) => string_first(body.len() + 2, Quoted::of(body)),
+    }
+}
+
+/// What stands first in a text that has a byte at least.
+#[tactic(auto, unfolding(crate::specs::Pieces::first_of))]
+pub(crate) fn first_of(text: &[u8]) -> Result<Piece<'_>, TextFaultKind>
+    requires { 0 < length text.now }
+    ensures { result ≡ first_of (slice_index text.now 0) (drop 1 text.now) }
+{
+    let byte = text[0];
+    if is_white(byte) {
+        Ok(Piece::gap(1))
+    } else if byte == b'\n' {
+        Ok(Piece::token(TokenKind::EndOfLine, 1))
+    } else if byte == b'#' {
+        Ok(comment_at(text))
+    } else if is_letter(byte) {
+        Ok(word_at(text))
+    } else if byte.is_ascii_digit() {
+        number_at(text)
+    } else if byte == b'-' {
+        negative_at(&text[1..])
+    } else if byte == b'\\' || byte == b'$' {
+        identifier_at(text)
+    } else if byte == b'"' {
+        string_at(&text[1..])
+    } else {
+        sign_at(byte)
+    }
 }
