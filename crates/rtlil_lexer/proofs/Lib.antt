@@ -2,3 +2,4 @@ pub mod Decimals
 pub mod Escapes
 pub mod Fronts
 pub mod Zeros
+pub mod Steps

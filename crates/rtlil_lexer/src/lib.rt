@@ -5,6 +5,7 @@
 mod classes;
 mod constant;
 mod fault;
+mod lexer;
 mod number;
 mod piece;
 mod place;
@@ -19,6 +20,7 @@ ghost use Rattle.rtlil_lexer.specs.Tokens.{lexed};
 
 pub use constant::{Constant, WIDEST};
 pub use fault::{TextFault, TextFaultKind};
+pub use lexer::lex;
 pub use quoted::Quoted;
 pub use spelling::Spelling;
 pub use token::{Token, TokenKind};
