@@ -163,3 +163,45 @@ fn decoded(alloc: Global, body: &[u8]) -> Result<Vec<u8>, NoMemory>
     }
     Ok(bytes)
 }
+
+#[cfg(test)]
+mod tests {
+    use super::Quoted;
+    use std::test::Fail;
+
+    #[test]
+    fn escapes_stand_for_their_bytes(rt: HostRuntime) -> Result<(), Fail> {
+        let cases: [(&[u8], &[u8]); 16] = [
+            (b"", b""),
+            (b"add 1", b"add 1"),
+            (br"\n", &[10]),
+            (br"\t", &[9]),
+            (br"\1", &[1]),
+            (br"\12", &[10]),
+            (br"\123", &[83]),
+            (br"\1234", &[83, 52]),
+            (br"\0", &[0]),
+            (br"\377", &[255]),
+            (br"\18", &[1, 56]),
+            (br"\8", &[56]),
+            (br"\\", &[92]),
+            (br#"\""#, &[34]),
+            (br"\q", &[113]),
+            (br"a\\n\tb", &[97, 92, 110, 9, 98]),
+        ];
+        for (body, want) in cases {
+            let quoted = Quoted::of(body).ok_or("no string")?;
+            let name = quoted.to_name(rt.alloc())?;
+            assert_eq!(rt; name.as_bytes(), want);
+        }
+        Ok(())
+    }
+
+    #[test]
+    fn a_number_above_255_is_no_byte(rt: HostRuntime) {
+        let cases: [&[u8]; 4] = [br"\400", br"\777", br"ok\400", br"\377\400"];
+        for body in cases {
+            assert!(rt; Quoted::of(body).is_none());
+        }
+    }
+}
