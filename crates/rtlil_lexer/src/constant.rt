@@ -1,9 +1,9 @@
 //! Constants: values of bits, written in digits.
-ghost use Rattle.std.specs.Prelude.{◌≡◌, ◌≤◌, ◌<◌, ◌^◌, ℕ, List, length, IfOk, nat_le, true};
+ghost use Rattle.std.specs.Prelude.{◌≡◌, ◌≤◌, ◌<◌, ◌+◌, ◌^◌, length, IfOk, true};
 ghost use Rattle.std.specs.List.{list_all};
 ghost use Rattle.sim_base.specs.BitValue.{bit_value};
 ghost use Rattle.rtlil_lexer.specs.Characters.{is_constant_digit};
-ghost use Rattle.rtlil_lexer.specs.Constants.{ConstantValue, constant_value, widest};
+ghost use Rattle.rtlil_lexer.specs.Constants.{ConstantValue, constant_value, widest, filler, filled, number_where, passes};
 
 use sim_base::{Bits, NoMemory};
 use std::alloc::Global;
@@ -53,5 +53,199 @@ impl<'a> Constant<'a> {
         ensures { result ≡ self.now.width }
     {
         self.width
+    }
+
+    /// The bits that are 1 where the digit is 1.
+    pub fn value(&self, alloc: Global) -> Result<Bits, NoMemory>
+        ensures { IfOk result (λ bits. bits ≡ bit_value self.now.width self.now.value) }
+    {
+        bits_where(alloc, self.width, self.digits, Sought::One)
+    }
+
+    /// The bits that are 1 where the digit is 0 or 1.
+    pub fn known(&self, alloc: Global) -> Result<Bits, NoMemory>
+        ensures { IfOk result (λ bits. bits ≡ bit_value self.now.width self.now.known) }
+    {
+        bits_where(alloc, self.width, self.digits, Sought::Known)
+    }
+
+    /// The bits that are 1 where the digit is `-`.
+    pub fn any(&self, alloc: Global) -> Result<Bits, NoMemory>
+        ensures { IfOk result (λ bits. bits ≡ bit_value self.now.width self.now.any) }
+    {
+        bits_where(alloc, self.width, self.digits, Sought::Any)
+    }
+}
+
+/// The digits that are sought.
+#[derive(Clone, Copy)]
+enum Sought {
+    /// `1`
+    One,
+    /// `0` and `1`
+    Known,
+    /// `-`
+    Any,
+}
+
+fn passes(sought: Sought, digit: u8) -> bool
+    ensures { result ≡ passes sought digit }
+{
+    match sought {
+        Sought::One => digit == b'1',
+        Sought::Known => digit == b'0' || digit == b'1',
+        Sought::Any => digit == b'-',
+    }
+}
+
+/// The digit that stands for each one that was not written.
+fn filler(digits: &[u8]) -> u8
+    ensures { result ≡ filler digits.now }
+{
+    if digits.is_empty() {
+        return b'x';
+    }
+    if digits[0] == b'1' { b'0' } else { digits[0] }
+}
+
+/// The bits of this width that are 1 where the digits are sought, the ones that were not written as they
+/// are filled.
+fn bits_where(alloc: Global, width: u32, digits: &[u8], sought: Sought) -> Result<Bits, NoMemory>
+    requires { length digits.now ≤ width }
+    ensures { IfOk result (λ bits. bits ≡ bit_value width (number_where (passes sought) (filled width digits.now))) }
+{
+    let mut bits = Bits::zero(alloc, width)?;
+    set_written(&mut bits, digits, sought);
+    if passes(sought, filler(digits)) {
+        set_from(&mut bits, digits.len() as u32);
+    }
+    Ok(bits)
+}
+
+/// Sets the lowest bits where these digits are sought, the last digit being that of the least bit.
+fn set_written(bits: &mut Bits, digits: &[u8], sought: Sought)
+    requires room { length digits.now ≤ bits.old.width }
+    requires zero { bits.old.number ≡ 0 }
+    ensures width { bits.new.width ≡ bits.old.width }
+    ensures number { bits.new.number ≡ number_where (passes sought) digits.now }
+{
+    let _ = bits.width();
+    for at in 0..digits.len() {
+        if passes(sought, digits[digits.len() - 1 - at]) {
+            bits.set(at as u32, true);
+        }
+    }
+}
+
+/// Sets all bits from one on.
+fn set_from(bits: &mut Bits, from: u32)
+    requires inside { from ≤ bits.old.width }
+    requires below { bits.old.number < 2 ^ from }
+    ensures width { bits.new.width ≡ bits.old.width }
+    ensures number { bits.new.number + 2 ^ from ≡ 2 ^ bits.old.width + bits.old.number }
+{
+    let width = bits.width();
+    let mut at = from;
+    while at < width {
+        let part = (width - at).min(64);
+        bits.put_field(at, part, u64::MAX);
+        at += part;
+    }
+}
+
+#[cfg(test)]
+mod tests {
+    use super::{Constant, WIDEST};
+    use sim_base::{Bits, NoMemory};
+    use std::alloc::Global;
+    use std::test::Fail;
+
+    fn is_digit(byte: u8) -> bool
+        ensures { result ≡ is_constant_digit byte }
+    {
+        byte == b'0' || byte == b'1' || byte == b'x' || byte == b'z' || byte == b'm' || byte == b'-'
+    }
+
+    fn are_digits(bytes: &[u8]) -> bool
+        ensures { result ≡ list_all is_constant_digit bytes.now }
+    {
+        bytes.iter().all(|byte| is_digit(*byte))
+    }
+
+    /// The constant, where its digits are digits and fit.
+    fn constant(width: u32, digits: &[u8]) -> Option<Constant<'_>> {
+        if width > WIDEST || digits.len() > width as usize || !are_digits(digits) {
+            return None;
+        }
+        Some(Constant::of(width, digits))
+    }
+
+    /// The binary digits of a value, the most significant first.
+    fn binary(alloc: Global, bits: &Bits) -> Result<Vec<u8>, NoMemory> {
+        let mut text = Vec::new(alloc);
+        for at in (0..bits.width()).rev() {
+            text.push(if bits.bit(at) { b'1' } else { b'0' })?;
+        }
+        Ok(text)
+    }
+
+    #[test]
+    fn digits_are_filled_in_front(rt: HostRuntime) -> Result<(), Fail> {
+        let cases: [(u32, &[u8], &[u8], &[u8], &[u8]); 11] = [
+            (8, b"1", b"00000001", b"11111111", b"00000000"),
+            (8, b"0", b"00000000", b"11111111", b"00000000"),
+            (8, b"x", b"00000000", b"00000000", b"00000000"),
+            (4, b"01", b"0001", b"1111", b"0000"),
+            (4, b"1x", b"0010", b"1110", b"0000"),
+            (4, b"-", b"0000", b"0000", b"1111"),
+            (4, b"-1", b"0001", b"0001", b"1110"),
+            (6, b"-01xzm", b"001000", b"011000", b"100000"),
+            (5, b"m10", b"00010", b"00011", b"00000"),
+            (0, b"", b"", b"", b""),
+            (3, b"", b"000", b"000", b"000"),
+        ];
+        for (width, digits, value, known, any) in cases {
+            let constant = constant(width, digits).ok_or("no constant")?;
+            assert_eq!(rt; constant.width(), width);
+            assert_eq!(rt;
+                binary(rt.alloc(), &constant.value(rt.alloc())?)?.as_slice(),
+                value
+            );
+            assert_eq!(rt;
+                binary(rt.alloc(), &constant.known(rt.alloc())?)?.as_slice(),
+                known
+            );
+            assert_eq!(rt;
+                binary(rt.alloc(), &constant.any(rt.alloc())?)?.as_slice(),
+                any
+            );
+        }
+        Ok(())
+    }
+
+    #[test]
+    fn digits_are_filled_beyond_64_bits(rt: HostRuntime) -> Result<(), Fail> {
+        let cases: [(u32, &[u8], [u8; 2], [u8; 2], [u8; 2]); 4] = [
+            (70, b"1", *b"01", *b"11", *b"00"),
+            (70, b"z", *b"00", *b"00", *b"00"),
+            (200, b"-0", *b"00", *b"01", *b"10"),
+            (130, b"0", *b"00", *b"11", *b"00"),
+        ];
+        for (width, digits, value, known, any) in cases {
+            let constant = constant(width, digits).ok_or("no constant")?;
+            let numbers = [
+                (constant.value(rt.alloc())?, value),
+                (constant.known(rt.alloc())?, known),
+                (constant.any(rt.alloc())?, any),
+            ];
+            for (bits, [others, least]) in numbers {
+                let text = binary(rt.alloc(), &bits)?;
+                assert_eq!(rt; text.len(), width as usize);
+                let (last, front) = text.as_slice().split_last().ok_or("no bit")?;
+                assert_eq!(rt; *last, least);
+                assert!(rt; front.iter().all(|digit| *digit == others));
+            }
+        }
+        Ok(())
     }
 }
