@@ -4,17 +4,9 @@
 
 mod constant;
 mod fault;
+mod laws;
 mod piece;
 mod place;
 mod quoted;
 mod spelling;
 mod token;
-
-ghost use Rattle.std.specs.Prelude.{◌≡◌};
-ghost use Rattle.rtlil_lexer.specs.Tokens.{lexed};
-
-pub use constant::{Constant, WIDEST};
-pub use fault::{TextFault, TextFaultKind};
-pub use quoted::Quoted;
-pub use spelling::Spelling;
-pub use token::{Token, TokenKind};
