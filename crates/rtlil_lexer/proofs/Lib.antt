@@ -4,3 +4,9 @@ pub mod Escapes
 pub mod Fronts
 pub mod Steps
 pub mod Zeros
+pub mod Runs
+pub mod Bodies
+pub mod Pieces
+pub mod Stands
+pub mod Readings
+pub mod Before

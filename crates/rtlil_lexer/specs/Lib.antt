@@ -5,3 +5,4 @@ pub mod Strings
 pub mod Pieces
 pub mod Tokens
 pub mod Cursors
+pub mod Reading

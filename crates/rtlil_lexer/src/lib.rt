@@ -5,6 +5,7 @@
 mod classes;
 mod constant;
 mod fault;
+mod laws;
 mod lexer;
 mod number;
 mod piece;
@@ -17,11 +18,9 @@ mod strings;
 mod tests;
 mod token;
 
-ghost use Rattle.std.specs.Prelude.{◌≡◌};
-ghost use Rattle.rtlil_lexer.specs.Tokens.{lexed};
-
 pub use constant::{Constant, WIDEST};
 pub use fault::{TextFault, TextFaultKind};
+pub use laws::{law_of_faults, law_of_one_reading, law_of_tokens};
 pub use lexer::lex;
 pub use quoted::Quoted;
 pub use spelling::Spelling;
