@@ -10,3 +10,4 @@ pub mod Pieces
 pub mod Stands
 pub mod Readings
 pub mod Before
+pub mod ConstantTexts

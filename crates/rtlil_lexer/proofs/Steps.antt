@@ -15,7 +15,8 @@ use Rattle.rtlil_lexer.specs.Characters.{is_white, is_line_feed, is_letter, is_n
 use Rattle.rtlil_lexer.specs.Numbers.{decimal, integer_of}
 use Rattle.std.proofs.lemmas.Bool.Decides.{nat_tests}
 use Rattle.rtlil_lexer.specs.Constants.{ConstantValue}
-use Rattle.rtlil_lexer.specs.Pieces.{First, gap_of, token_of, comment_at, word_at, identifier_at, number_at, negative_at, constant_at, constant_first, integer_first, sign_length, constant_of, string_at, string_first, closed_first, sign_at, first_of}
+use Rattle.rtlil_lexer.specs.ConstantText.{sign_length}
+use Rattle.rtlil_lexer.specs.Pieces.{First, gap_of, token_of, comment_at, word_at, identifier_at, number_at, negative_at, constant_at, constant_first, integer_first, constant_of, string_at, string_first, closed_first, sign_at, first_of}
 use Rattle.rtlil_lexer.specs.Strings.{body_of, quoted_of}
 use Rattle.rtlil_lexer.specs.Tokens.{Lexed, last_end, behind, behind_token, fault_at, onward, tokens_from, tokens_in, with_first, with_front}
 

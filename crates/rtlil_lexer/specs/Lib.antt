@@ -1,6 +1,7 @@
 pub mod Characters
 pub mod Numbers
 pub mod Constants
+pub mod ConstantText
 pub mod Strings
 pub mod Pieces
 pub mod Tokens

@@ -9,6 +9,7 @@ use Rattle.rtlil_lexer.specs.declared.fault.TextFaultKind.TheVariants as fault
 use Rattle.rtlil_lexer.specs.declared.piece.Piece.{Piece}
 use Rattle.rtlil_lexer.specs.Characters.{is_white, is_line_feed, is_letter, is_name_byte, is_constant_digit}
 use Rattle.rtlil_lexer.specs.Constants.{ConstantValue, constant_value, widest}
+use Rattle.rtlil_lexer.specs.ConstantText.{sign_length}
 use Rattle.rtlil_lexer.specs.Numbers.{decimal, integer_of}
 use Rattle.rtlil_lexer.specs.Strings.{body_of, quoted_of}
 
@@ -40,10 +41,6 @@ identifier_at sign rest =
 abbrev pub integer_first : ℕ → Option ℤ → First
 integer_first size None = Err fault.BadNumber
 integer_first size (Some n) = token_of (token.Integer n) size
-
--- an `s` (115) behind a constant's quote
-abbrev pub sign_length : List ℕ → ℕ
-sign_length rest = if slice_index rest 0 == 115 then 1 else 0
 
 -- a constant that takes so many bytes, where its digits are within its width and the width within its bound
 abbrev pub constant_of : ℕ → List ℕ → Option ConstantValue

@@ -1,7 +1,8 @@
 //! How many bytes of one kind a text begins with.
-ghost use Rattle.std.specs.Prelude.{◌≡◌, ◌≤◌, length, not};
-ghost use Rattle.std.specs.List.{prefix_len};
+ghost use Rattle.std.specs.Prelude.{◌≡◌, ◌≤◌, length, not, true};
+ghost use Rattle.std.specs.List.{list_all, prefix_len, take_while};
 ghost use Rattle.std.specs.Char.{is_ascii_digit};
+ghost use Rattle.rtlil_lexer.specs.ConstantText.{sign_length};
 ghost use Rattle.rtlil_lexer.specs.Characters.{is_constant_digit, is_letter, is_line_feed, is_name_byte, is_white};
 
 /// A space, a tab or a carriage return.
@@ -84,4 +85,35 @@ pub(crate) fn line_bytes(text: &[u8]) -> usize
         }
     }
     text.len()
+}
+
+/// The decimal digits at the front of a text.
+#[tactic(auto, using(crate::proofs::Fronts::all_of_front))]
+pub(crate) fn leading_decimals(text: &[u8]) -> &[u8]
+    ensures value { result.now ≡ take_while is_ascii_digit text.now }
+    ensures digits { list_all is_ascii_digit result.now ≡ true }
+{
+    &text[..decimal_digits(text)]
+}
+
+/// The digits of a constant at the front of a text.
+#[tactic(auto, using(crate::proofs::Fronts::all_of_front))]
+pub(crate) fn leading_constant_digits(text: &[u8]) -> &[u8]
+    ensures value { result.now ≡ take_while is_constant_digit text.now }
+    ensures digits { list_all is_constant_digit result.now ≡ true }
+    ensures within { length result.now ≤ length text.now }
+{
+    &text[..constant_digits(text)]
+}
+
+/// How many bytes an `s` behind a constant's quote takes.
+pub(crate) fn sign_length(rest: &[u8]) -> usize
+    ensures value { result ≡ sign_length rest.now }
+    ensures within { result ≤ length rest.now }
+{
+    if !rest.is_empty() && rest[0] == b's' {
+        1
+    } else {
+        0
+    }
 }

@@ -1,10 +1,12 @@
 //! Constants: values of bits, written in digits.
-ghost use Rattle.std.specs.Prelude.{◌≡◌, ◌≤◌, ◌<◌, ◌+◌, ◌^◌, length, IfOk, true};
-ghost use Rattle.std.specs.List.{list_all};
+ghost use Rattle.std.specs.Prelude.{◌≡◌, ◌≤◌, ◌<◌, ◌+◌, ◌^◌, length, IfOk};
 ghost use Rattle.sim_base.specs.BitValue.{bit_value};
-ghost use Rattle.rtlil_lexer.specs.Characters.{is_constant_digit};
-ghost use Rattle.rtlil_lexer.specs.Constants.{ConstantValue, constant_value, widest, filler, filled, number_where, passes};
+ghost use Rattle.rtlil_lexer.specs.Constants.{filled, filler, number_where, passes, widest};
+ghost use Rattle.rtlil_lexer.specs.ConstantText.{IsConstantText, constant_in, digits_in, width_digits};
+ghost use Rattle.rtlil_lexer.specs.Numbers.{decimal};
 
+use crate::classes::{leading_decimals, sign_length};
+use crate::number::capped_decimal;
 use sim_base::{Bits, NoMemory};
 use std::alloc::Global;
 use std::marker::Model;
@@ -19,62 +21,75 @@ pub const WIDEST: u32 = 67_108_864;
 /// written are counted as the Yosys manual fills them.
 #[derive(Debug, Drop)]
 pub struct Constant<'a> {
-    width: u32,
-    digits: &'a [u8],
+    spelled: &'a [u8],
 }
 
 impl<'a> Model for Constant<'a> {
-    ghost use Rattle.std.specs.Prelude.{◌≡◌, ◌≤◌, length, true};
-    ghost use Rattle.std.specs.List.{list_all};
-    ghost use Rattle.rtlil_lexer.specs.Characters.{is_constant_digit};
-    ghost use Rattle.rtlil_lexer.specs.Constants.{ConstantValue, constant_value, widest};
+    ghost use Rattle.rtlil_lexer.specs.Constants.{ConstantValue};
+    ghost use Rattle.rtlil_lexer.specs.ConstantText.{IsConstantText, constant_in};
 
     ghost Value = { ConstantValue };
 
-    ghost view = { λ c. constant_value c.width c.digits.now };
+    ghost view = { λ c. constant_in c.spelled.now };
 
-    ghost invariant = { λ c. (c.width ≤ widest) × (length c.digits.now ≤ c.width) × (list_all is_constant_digit c.digits.now ≡ true) };
+    ghost invariant = { λ c. IsConstantText c.spelled.now };
 }
 
 impl<'a> Constant<'a> {
-    /// The constant of this width in bits with these digits, the most significant first. Each is one of
-    /// `0 1 x z m -`, and there are not more of them than bits.
-    pub fn of(width: u32, digits: &'a [u8]) -> Constant<'a>
-        requires widest { width ≤ widest }
-        requires room { length digits.now ≤ width }
-        requires digits { list_all is_constant_digit digits.now ≡ true }
-        ensures { result ≡ constant_value width digits.now }
+    /// The constant that a text stands for: the digits of its width in bits, a quote, an `s` or none, and
+    /// its digits, the most significant first. Each of these is one of `0 1 x z m -`, and there are not
+    /// more of them than bits.
+    pub fn of(spelled: &'a [u8]) -> Constant<'a>
+        requires { IsConstantText spelled.now }
+        ensures { result ≡ constant_in spelled.now }
     {
-        Constant { width, digits }
+        Constant { spelled }
     }
 
     /// The width in bits.
     pub fn width(&self) -> u32
         ensures { result ≡ self.now.width }
     {
-        self.width
+        width_in(self.spelled)
     }
 
     /// The bits that are 1 where the digit is 1.
     pub fn value(&self, alloc: Global) -> Result<Bits, NoMemory>
         ensures { IfOk result (λ bits. bits ≡ bit_value self.now.width self.now.value) }
     {
-        bits_where(alloc, self.width, self.digits, Sought::One)
+        bits_where(alloc, width_in(self.spelled), digits_in(self.spelled), Sought::One)
     }
 
     /// The bits that are 1 where the digit is 0 or 1.
     pub fn known(&self, alloc: Global) -> Result<Bits, NoMemory>
         ensures { IfOk result (λ bits. bits ≡ bit_value self.now.width self.now.known) }
     {
-        bits_where(alloc, self.width, self.digits, Sought::Known)
+        bits_where(alloc, width_in(self.spelled), digits_in(self.spelled), Sought::Known)
     }
 
     /// The bits that are 1 where the digit is `-`.
     pub fn any(&self, alloc: Global) -> Result<Bits, NoMemory>
         ensures { IfOk result (λ bits. bits ≡ bit_value self.now.width self.now.any) }
     {
-        bits_where(alloc, self.width, self.digits, Sought::Any)
+        bits_where(alloc, width_in(self.spelled), digits_in(self.spelled), Sought::Any)
     }
+}
+
+/// The width of a constant in bits.
+fn width_in(spelled: &[u8]) -> u32
+    requires { decimal (width_digits spelled.now) ≤ widest }
+    ensures { result ≡ decimal (width_digits spelled.now) }
+{
+    capped_decimal(leading_decimals(spelled)) as u32
+}
+
+/// The digits of a constant, as they are written.
+pub(crate) fn digits_in(spelled: &[u8]) -> &[u8]
+    requires { length (width_digits spelled.now) < length spelled.now }
+    ensures { result.now ≡ digits_in spelled.now }
+{
+    let rest = &spelled[leading_decimals(spelled).len() + 1..];
+    &rest[sign_length(rest)..]
 }
 
 /// The digits that are sought.
@@ -155,29 +170,25 @@ fn set_from(bits: &mut Bits, from: u32)
 
 #[cfg(test)]
 mod tests {
-    use super::{Constant, WIDEST};
+    use super::Constant;
+    use crate::piece::{Piece, first_of};
+    use crate::token::TokenKind;
     use sim_base::{Bits, NoMemory};
     use std::alloc::Global;
     use std::test::Fail;
 
-    fn is_digit(byte: u8) -> bool
-        ensures { result ≡ is_constant_digit byte }
-    {
-        byte == b'0' || byte == b'1' || byte == b'x' || byte == b'z' || byte == b'm' || byte == b'-'
-    }
-
-    fn are_digits(bytes: &[u8]) -> bool
-        ensures { result ≡ list_all is_constant_digit bytes.now }
-    {
-        bytes.iter().all(|byte| is_digit(*byte))
-    }
-
-    /// The constant, where its digits are digits and fit.
-    fn constant(width: u32, digits: &[u8]) -> Option<Constant<'_>> {
-        if width > WIDEST || digits.len() > width as usize || !are_digits(digits) {
+    /// The constant that the text is, if it is one.
+    fn constant(text: &[u8]) -> Option<Constant<'_>> {
+        if text.is_empty() {
             return None;
         }
-        Some(Constant::of(width, digits))
+        match first_of(text) {
+            Ok(Piece {
+                token: Some(TokenKind::Constant(constant)),
+                length,
+            }) if length == text.len() => Some(constant),
+            _ => None,
+        }
     }
 
     /// The binary digits of a value, the most significant first.
@@ -191,21 +202,22 @@ mod tests {
 
     #[test]
     fn digits_are_filled_in_front(rt: HostRuntime) -> Result<(), Fail> {
-        let cases: [(u32, &[u8], &[u8], &[u8], &[u8]); 11] = [
-            (8, b"1", b"00000001", b"11111111", b"00000000"),
-            (8, b"0", b"00000000", b"11111111", b"00000000"),
-            (8, b"x", b"00000000", b"00000000", b"00000000"),
-            (4, b"01", b"0001", b"1111", b"0000"),
-            (4, b"1x", b"0010", b"1110", b"0000"),
-            (4, b"-", b"0000", b"0000", b"1111"),
-            (4, b"-1", b"0001", b"0001", b"1110"),
-            (6, b"-01xzm", b"001000", b"011000", b"100000"),
-            (5, b"m10", b"00010", b"00011", b"00000"),
-            (0, b"", b"", b"", b""),
-            (3, b"", b"000", b"000", b"000"),
+        let cases: [(u32, &[u8], &[u8], &[u8], &[u8]); 12] = [
+            (8, b"8'1", b"00000001", b"11111111", b"00000000"),
+            (8, b"8'0", b"00000000", b"11111111", b"00000000"),
+            (8, b"8'x", b"00000000", b"00000000", b"00000000"),
+            (4, b"4'01", b"0001", b"1111", b"0000"),
+            (4, b"4'1x", b"0010", b"1110", b"0000"),
+            (4, b"4'-", b"0000", b"0000", b"1111"),
+            (4, b"4'-1", b"0001", b"0001", b"1110"),
+            (6, b"6'-01xzm", b"001000", b"011000", b"100000"),
+            (5, b"5'm10", b"00010", b"00011", b"00000"),
+            (0, b"0'", b"", b"", b""),
+            (3, b"3'", b"000", b"000", b"000"),
+            (5, b"005's-1", b"00001", b"00001", b"11110"),
         ];
-        for (width, digits, value, known, any) in cases {
-            let constant = constant(width, digits).ok_or("no constant")?;
+        for (width, text, value, known, any) in cases {
+            let constant = constant(text).ok_or("no constant")?;
             assert_eq!(rt; constant.width(), width);
             assert_eq!(rt;
                 binary(rt.alloc(), &constant.value(rt.alloc())?)?.as_slice(),
@@ -226,13 +238,13 @@ mod tests {
     #[test]
     fn digits_are_filled_beyond_64_bits(rt: HostRuntime) -> Result<(), Fail> {
         let cases: [(u32, &[u8], [u8; 2], [u8; 2], [u8; 2]); 4] = [
-            (70, b"1", *b"01", *b"11", *b"00"),
-            (70, b"z", *b"00", *b"00", *b"00"),
-            (200, b"-0", *b"00", *b"01", *b"10"),
-            (130, b"0", *b"00", *b"11", *b"00"),
+            (70, b"70'1", *b"01", *b"11", *b"00"),
+            (70, b"70'z", *b"00", *b"00", *b"00"),
+            (200, b"200'-0", *b"00", *b"01", *b"10"),
+            (130, b"130'0", *b"00", *b"11", *b"00"),
         ];
-        for (width, digits, value, known, any) in cases {
-            let constant = constant(width, digits).ok_or("no constant")?;
+        for (width, text, value, known, any) in cases {
+            let constant = constant(text).ok_or("no constant")?;
             let numbers = [
                 (constant.value(rt.alloc())?, value),
                 (constant.known(rt.alloc())?, known),

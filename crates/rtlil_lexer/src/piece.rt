@@ -1,15 +1,18 @@
 //! What stands first in a text: a token, white space, a comment or a fault.
 ghost use Rattle.std.specs.Prelude.{◌≡◌, ◌≤◌, ◌<◌, true, length, drop, slice_index, Ok, Some, None};
-ghost use Rattle.std.specs.List.{list_all, take_while};
+ghost use Rattle.std.specs.List.{list_all, prefix_len, take_while};
 ghost use Rattle.std.specs.Char.{is_ascii_digit};
 ghost use Rattle.rtlil_lexer.specs.Characters.{is_constant_digit};
 ghost use Rattle.rtlil_lexer.specs.Constants.{widest};
-ghost use Rattle.rtlil_lexer.specs.Pieces.{token_of, gap_of, comment_at, word_at, identifier_at, integer_first, sign_length, constant_of, constant_first, constant_at, number_at, negative_at, string_first, string_at, sign_at, first_of};
+ghost use Rattle.rtlil_lexer.specs.ConstantText.{behind_quote, digits_in, width_digits};
+ghost use Rattle.rtlil_lexer.specs.Numbers.{decimal};
+ghost use Rattle.rtlil_lexer.specs.Pieces.{token_of, gap_of, comment_at, word_at, identifier_at, integer_first, constant_of, constant_first, constant_at, number_at, negative_at, string_first, string_at, sign_at, first_of};
 
 use crate::classes::{
-    constant_digits, decimal_digits, is_letter, is_white, letters, line_bytes, name_bytes,
+    is_letter, is_white, leading_constant_digits, leading_decimals, letters, line_bytes, name_bytes,
+    sign_length,
 };
-use crate::constant::{Constant, WIDEST};
+use crate::constant::{Constant, WIDEST, digits_in};
 use crate::fault::TextFaultKind;
 use crate::number::{capped_decimal, integer_of};
 use crate::quoted::Quoted;
@@ -42,25 +45,6 @@ impl<'a> Piece<'a> {
             length: size,
         }
     }
-}
-
-/// The decimal digits at the front of a text.
-#[tactic(auto, using(crate::proofs::Fronts::all_of_front))]
-fn leading_decimals(text: &[u8]) -> &[u8]
-    ensures value { result.now ≡ take_while is_ascii_digit text.now }
-    ensures digits { list_all is_ascii_digit result.now ≡ true }
-{
-    &text[..decimal_digits(text)]
-}
-
-/// The digits of a constant at the front of a text.
-#[tactic(auto, using(crate::proofs::Fronts::all_of_front))]
-fn leading_constant_digits(text: &[u8]) -> &[u8]
-    ensures value { result.now ≡ take_while is_constant_digit text.now }
-    ensures digits { list_all is_constant_digit result.now ≡ true }
-    ensures within { length result.now ≤ length text.now }
-{
-    &text[..constant_digits(text)]
 }
 
 /// A comment, which goes up to the line's end.
@@ -104,27 +88,17 @@ fn integer_first<'a>(size: usize, number: Option<i32>) -> Result<Piece<'a>, Text
     }
 }
 
-/// How many bytes an `s` behind a constant's quote takes.
-fn sign_length(rest: &[u8]) -> usize
-    ensures value { result ≡ sign_length rest.now }
-    ensures within { result ≤ length rest.now }
-{
-    if !rest.is_empty() && rest[0] == b's' {
-        1
-    } else {
-        0
-    }
-}
-
 /// A constant, where its digits are within its width and the width within its bound.
-fn constant_of(width: u64, digits: &[u8]) -> Option<Constant<'_>>
-    requires { list_all is_constant_digit digits.now ≡ true }
-    ensures { result ≡ constant_of width digits.now }
+fn constant_of(spelled: &[u8]) -> Option<Constant<'_>>
+    requires quoted { length (width_digits spelled.now) < length spelled.now }
+    requires each { list_all is_constant_digit (digits_in spelled.now) ≡ true }
+    ensures { result ≡ constant_of (decimal (width_digits spelled.now)) (digits_in spelled.now) }
 {
-    if width > u64::from(WIDEST) || digits.len() as u64 > width {
+    let width = capped_decimal(leading_decimals(spelled));
+    if width > u64::from(WIDEST) || digits_in(spelled).len() as u64 > width {
         return None;
     }
-    Some(Constant::of(width as u32, digits))
+    Some(Constant::of(spelled))
 }
 
 fn constant_first<'a>(
@@ -139,16 +113,19 @@ fn constant_first<'a>(
     }
 }
 
-/// A constant with this width, from behind its quote on.
+/// A constant, whose width takes so many bytes, with a quote behind it.
 #[tactic(auto, unfolding(crate::specs::Pieces::constant_at))]
-fn constant_at<'a>(width: &[u8], rest: &'a [u8]) -> Result<Piece<'a>, TextFaultKind>
-    requires { list_all is_ascii_digit width.now ≡ true }
-    ensures { result ≡ constant_at width.now rest.now }
+fn constant_at(text: &[u8], width: usize) -> Result<Piece<'_>, TextFaultKind>
+    requires width { width ≡ prefix_len is_ascii_digit text.now }
+    requires within { width < length text.now }
+    requires quote { slice_index text.now width ≡ 39 }
+    ensures { result ≡ constant_at (width_digits text.now) (behind_quote text.now) }
 {
+    let rest = &text[width + 1..];
     let sign = sign_length(rest);
     let digits = leading_constant_digits(&rest[sign..]);
-    let size = width.len() + 1 + sign + digits.len();
-    constant_first(size, constant_of(capped_decimal(width), digits))
+    let size = width + 1 + sign + digits.len();
+    constant_first(size, constant_of(&text[..size]))
 }
 
 /// An integer or a constant, which begin with the same digits: a quote behind them tells.
@@ -159,7 +136,7 @@ fn number_at(text: &[u8]) -> Result<Piece<'_>, TextFaultKind>
     let digits = leading_decimals(text);
     let size = digits.len();
     if size < text.len() && text[size] == b'\'' {
-        constant_at(digits, &text[size + 1..])
+        constant_at(text, size)
     } else {
         integer_first(size, integer_of(false, digits))
     }
