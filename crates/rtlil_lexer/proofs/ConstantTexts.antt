@@ -1,5 +1,5 @@
 -- The text of a constant, cut from the text that it begins.
-use Rattle.std.proofs.Common.{◌≡◌, ℕ, zero, suc, ◌+◌, ◌-◌, ◌<◌, ◌≤◌, ◌==◌, cond, Bool, true, false, ◌&&◌, List, [], ◌∷◌, ◌++◌, length, take, drop, get_or, refl, sym, ap, subst, ◌∙◌, arith, inl, inr, ◌⊎◌, length-append}
+use Rattle.std.proofs.Common.{◌≡◌, ℕ, zero, suc, ◌+◌, ◌-◌, ◌<◌, ◌==◌, cond, Bool, true, false, List, [], ◌∷◌, ◌++◌, length, take, drop, get_or, refl, sym, ap, ◌∙◌, arith, inl, inr, ◌⊎◌, length-append}
 use Rattle.std.specs.List.{list_all, prefix_len, take_while}
 use Rattle.std.specs.Char.{is_ascii_digit}
 use Rattle.std.proofs.lemmas.Bool.Decides.{nat_tests}
@@ -42,6 +42,7 @@ sign_of (r ∷ rest) = elim (cases_eq r 115) [
   where
     same : (r : ℕ) → r ≡ 115 → (r == 115) ≡ true
     same r e = grind (arith, nat_tests)
+
     other : (r : ℕ) → (r ≡ 115 → ⊥) → (r == 115) ≡ false
     other r ne = grind (arith, nat_tests)
 
@@ -62,11 +63,11 @@ cut_of text n size is lt quote total =
     let more = drop (prefix_len is_constant_digit (digits_in text)) (digits_in text) in
     let parts : rest ≡ sign ++ (digits ++ more) = sym (take-append-drop (sign_length rest) rest) ∙ ap (λ r. sign ++ r) (sym (take-append-drop (prefix_len is_constant_digit (digits_in text)) (digits_in text))) in
     let all : text ≡ (width_digits text ++ (39 ∷ sign ++ digits)) ++ more =
-        whole text n is lt quote ∙ ap (λ r. width_digits text ++ 39 ∷ r) parts
-        ∙ ap (λ r. width_digits text ++ 39 ∷ r) (sym (append_assoc sign digits more)) ∙ sym (append_assoc (width_digits text) (39 ∷ sign ++ digits) more) in
+    whole text n is lt quote ∙ ap (λ r. width_digits text ++ 39 ∷ r) parts
+    ∙ ap (λ r. width_digits text ++ 39 ∷ r) (sym (append_assoc sign digits more)) ∙ sym (append_assoc (width_digits text) (39 ∷ sign ++ digits) more) in
     let wide : length (width_digits text) ≡ n = length-prefix_len is_ascii_digit text ∙ sym is in
     let long : size ≡ length (width_digits text ++ (39 ∷ sign ++ digits)) =
-        (let a = length-append (width_digits text) (39 ∷ sign ++ digits) in let b = length-append sign digits in let s = sign_size rest in omega arith) in
+    (let a = length-append (width_digits text) (39 ∷ sign ++ digits) in let b = length-append sign digits in let s = sign_size rest in omega arith) in
     record {
       sign = sign;
       digits = digits;
@@ -163,4 +164,4 @@ constant_read text n sign digits r =
     ap (λ w. constant_first (n + 1 + sign + length digits) (constant_of (decimal w) (digits_in (take (n + 1 + sign + length digits) text)))) same.width
     ∙ ap (λ ds. constant_first (n + 1 + sign + length digits) (constant_of (decimal (width_digits text)) ds)) same.digits
     ∙ ap (λ k. constant_first k (constant_of (decimal (width_digits text)) (take_while is_constant_digit (digits_in text)))) (size_read text n sign digits r
-        ∙ ap (λ k. k + 1 + sign_length (behind_quote text) + length (take_while is_constant_digit (digits_in text))) wide)
+    ∙ ap (λ k. k + 1 + sign_length (behind_quote text) + length (take_while is_constant_digit (digits_in text))) wide)

@@ -15,7 +15,6 @@ use Rattle.rtlil_lexer.specs.Characters.{is_white, is_line_feed, is_letter, is_n
 use Rattle.rtlil_lexer.specs.Constants.{constant_value, widest}
 use Rattle.rtlil_lexer.specs.Numbers.{decimal, integer_of}
 use Rattle.rtlil_lexer.specs.Strings.{is_byte, body_length}
-use Rattle.rtlil_lexer.specs.ConstantText.{sign_length}
 use Rattle.rtlil_lexer.specs.Pieces.{First, first_of, token_of, gap_of, comment_at, word_at, identifier_at, number_at, negative_at, constant_at, constant_of, constant_first, integer_first, string_at, closed_first, string_first, sign_at}
 use Rattle.rtlil_lexer.specs.Reading.{NotOn, IsRun, Writes, IsConstant, IsWithin, IsPiece, IsFaulty, sign_of, begins_piece}
 use Rattle.rtlil_lexer.specs.Reading as reading

@@ -57,21 +57,36 @@ impl<'a> Constant<'a> {
     pub fn value(&self, alloc: Global) -> Result<Bits, NoMemory>
         ensures { IfOk result (λ bits. bits ≡ bit_value self.now.width self.now.value) }
     {
-        bits_where(alloc, width_in(self.spelled), digits_in(self.spelled), Sought::One)
+        bits_where(
+            alloc,
+            width_in(self.spelled),
+            digits_in(self.spelled),
+            Sought::One,
+        )
     }
 
     /// The bits that are 1 where the digit is 0 or 1.
     pub fn known(&self, alloc: Global) -> Result<Bits, NoMemory>
         ensures { IfOk result (λ bits. bits ≡ bit_value self.now.width self.now.known) }
     {
-        bits_where(alloc, width_in(self.spelled), digits_in(self.spelled), Sought::Known)
+        bits_where(
+            alloc,
+            width_in(self.spelled),
+            digits_in(self.spelled),
+            Sought::Known,
+        )
     }
 
     /// The bits that are 1 where the digit is `-`.
     pub fn any(&self, alloc: Global) -> Result<Bits, NoMemory>
         ensures { IfOk result (λ bits. bits ≡ bit_value self.now.width self.now.any) }
     {
-        bits_where(alloc, width_in(self.spelled), digits_in(self.spelled), Sought::Any)
+        bits_where(
+            alloc,
+            width_in(self.spelled),
+            digits_in(self.spelled),
+            Sought::Any,
+        )
     }
 }
 
@@ -183,10 +198,12 @@ mod tests {
             return None;
         }
         match first_of(text) {
-            Ok(Piece {
-                token: Some(TokenKind::Constant(constant)),
-                length,
-            }) if length == text.len() => Some(constant),
+            Ok(
+                Piece {
+                    token: Some(TokenKind::Constant(constant)),
+                    length,
+                },
+            ) if length == text.len() => Some(constant),
             _ => None,
         }
     }

@@ -9,8 +9,8 @@ ghost use Rattle.rtlil_lexer.specs.Numbers.{decimal};
 ghost use Rattle.rtlil_lexer.specs.Pieces.{token_of, gap_of, comment_at, word_at, identifier_at, integer_first, constant_of, constant_first, constant_at, number_at, negative_at, string_first, string_at, sign_at, first_of};
 
 use crate::classes::{
-    is_letter, is_white, leading_constant_digits, leading_decimals, letters, line_bytes, name_bytes,
-    sign_length,
+    is_letter, is_white, leading_constant_digits, leading_decimals, letters, line_bytes,
+    name_bytes, sign_length,
 };
 use crate::constant::{Constant, WIDEST, digits_in};
 use crate::fault::TextFaultKind;

@@ -1,6 +1,6 @@
 use Rattle.std.proofs.Common.{ap, ◌+◌, ◌∙◌, length}
 use Rattle.rtlil_lexer.specs.Pieces.{constant_first}
-use Rattle.rtlil_lexer.proofs.ConstantTexts.{AreRead, same_read, constant_read}
+use Rattle.rtlil_lexer.proofs.ConstantTexts.{same_read, constant_read}
 use Rattle.rtlil_lexer.proofs.piece.constant_at.Goals as goal
 
 pub constant_of-requires-clause-quoted : goal.constant_of-requires-clause-quoted
