@@ -105,15 +105,30 @@ const COUNTED: &str = "items 2
 end 6
 ";
 
-/// The text of a register of one bit at the clock `\clk`.
-fn register(alloc: Global, name: &str, d: &str, q: &str) -> Result<String, AllocError> {
+/// A register of one bit that takes `d` where `clk` rises.
+fn register(alloc: Global, clk: &str, d: &str, q: &str) -> Result<String, AllocError> {
     format!(in alloc;
-        "cell $dff {name}
+        "cell $dff $r{q}
 parameter \\CLK_POLARITY 1'1
 parameter \\WIDTH 1
-connect \\CLK \\clk
+connect \\CLK {clk}
 connect \\D {d}
 connect \\Q {q}
+end
+"
+    )
+}
+
+/// The lowest bit of the sum of two bits.
+fn sum(alloc: Global, a: &str, b: &str, y: &str) -> Result<String, AllocError> {
+    format!(in alloc;
+        "cell $add $a{y}
+parameter \\A_WIDTH 1
+parameter \\B_WIDTH 1
+parameter \\Y_WIDTH 1
+connect \\A {a}
+connect \\B {b}
+connect \\Y {y}
 end
 "
     )
@@ -164,7 +179,7 @@ fn check_rows<R: AllocGlobal + Abort>(rt: &R, rows: &[Row]) -> Result<(), Fail> 
 fn a_design_under_a_stimulus_is_traced(rt: HostRuntime) -> Result<(), Fail> {
     let alloc = rt.alloc();
     let counter = counter(alloc, "$add")?;
-    let constant = register(alloc, "$r", "1'1", "\\q")?;
+    let constant = register(alloc, "\\clk", "1'1", "\\q")?;
     let constant = format!(in alloc;
         "module \\m
 wire input 1 \\clk
@@ -204,8 +219,8 @@ wire output 2 \\q
 
 /// Two registers, one behind the other.
 fn chain(alloc: Global) -> Result<String, AllocError> {
-    let first = register(alloc, "$r1", "\\d", "\\q1")?;
-    let second = register(alloc, "$r2", "\\q1", "\\q2")?;
+    let first = register(alloc, "\\clk", "\\d", "\\q1")?;
+    let second = register(alloc, "\\clk", "\\q1", "\\q2")?;
     format!(in alloc;
         "module \\m
 wire input 1 \\clk
@@ -219,8 +234,10 @@ wire output 4 \\q2
 
 /// `x` takes `d` at `clk`, `g` the inverse of `g` at `clk`, and `y` takes `x` where `g` rises.
 fn rounds(alloc: Global) -> Result<String, AllocError> {
-    let x = register(alloc, "$x", "\\d", "\\x")?;
-    let g = register(alloc, "$g", "$n", "\\g")?;
+    let x = register(alloc, "\\clk", "\\d", "\\x")?;
+    let inverse = sum(alloc, "\\g", "1'1", "$n")?;
+    let g = register(alloc, "\\clk", "$n", "\\g")?;
+    let y = register(alloc, "\\g", "\\x", "\\y")?;
     format!(in alloc;
         "module \\m
 wire input 1 \\clk
@@ -229,22 +246,29 @@ wire \\g
 wire \\x
 wire \\y
 wire $n
-cell $add $a
-parameter \\A_WIDTH 1
-parameter \\B_WIDTH 1
-parameter \\Y_WIDTH 1
-connect \\A \\g
-connect \\B 1'1
-connect \\Y $n
-end
-{x}{g}cell $dff $y
-parameter \\CLK_POLARITY 1'1
-parameter \\WIDTH 1
-connect \\CLK \\g
-connect \\D \\x
-connect \\Q \\y
-end
-end
+{inverse}{x}{g}{y}end
+"
+    )
+}
+
+/// `t` and `b` clock each other by their parity: once `clk` is 1, one of them changes in each round.
+fn ring(alloc: Global) -> Result<String, AllocError> {
+    let parity = sum(alloc, "\\t", "\\b", "$p")?;
+    let other = sum(alloc, "$p", "\\clk", "$o")?;
+    let not_t = sum(alloc, "\\t", "1'1", "$t")?;
+    let not_b = sum(alloc, "\\b", "1'1", "$b")?;
+    let t = register(alloc, "$o", "$t", "\\t")?;
+    let b = register(alloc, "$p", "$b", "\\b")?;
+    format!(in alloc;
+        "module \\m
+wire input 1 \\clk
+wire \\t
+wire \\b
+wire $p
+wire $o
+wire $t
+wire $b
+{parity}{other}{not_t}{not_b}{t}{b}end
 "
     )
 }
@@ -254,6 +278,7 @@ fn registers_move_together_in_each_round(rt: HostRuntime) -> Result<(), Fail> {
     let alloc = rt.alloc();
     let chain = chain(alloc)?;
     let rounds = rounds(alloc)?;
+    let ring = ring(alloc)?;
     let edges = "stimulus 0
 inputs clk d
 block 2 0.00000001
@@ -295,6 +320,13 @@ end 4
 0.500000000000000 1 1 1 1 1
 end 2
 ",
+                log: "",
+            },
+            Row {
+                design: &ring,
+                stimulus: "stimulus 0\ninputs clk\nblock 2 1.0\n0.0 0\n0.5 1\nend\n",
+                status: 6,
+                out: "items 3\n1 b\n1 clk\n1 t\n0.000000000000000 0 0 0\nunsettled 1\n",
                 log: "",
             },
         ],
