@@ -1,5 +1,5 @@
 -- The text of a trace, piece by piece.
-use Rattle.std.proofs.Common.{◌≡◌, ℕ, zero, suc, ◌+◌, ◌≤◌, ◌<◌, List, [], ◌++◌, refl, sym, subst, ◌∙◌, ap, append_assoc, Option, Some, None, Bool, true, false, add-one, arith, inl, inr, ◌-◌}
+use Rattle.std.proofs.Common.{◌≡◌, ℕ, zero, suc, ◌+◌, ◌≤◌, List, [], ◌++◌, refl, sym, ◌∙◌, ap, append_assoc, Option, Some, true, add-one, arith, inl, inr, ◌-◌}
 use Rattle.std.specs.Prelude.{is_some, nat_lt}
 use Rattle.std.proofs.lemmas.Bool.{cases_Bool, cases_lt, cond-true, cond-false, false≢true}
 use Rattle.std.proofs.lemmas.List.{append-nil}

@@ -10,7 +10,6 @@ use Rattle.flat_stimulus.specs.Block.{Block, row_of, sample_count}
 use Rattle.flat_stimulus.specs.Text.{block_of}
 use Rattle.outside.specs.Shelf.{File, IsOf, IsLonger}
 use Rattle.cxxsim.specs.TraceText.{run_text}
-use Rattle.cxxsim.specs.Words.{TraceCommand}
 use Rattle.cxxsim.specs.declared.refusal.Refusal.{Refusal}
 use Rattle.cxxsim.specs.declared.refusal.Refusal.TheVariants as refusal
 

@@ -1,7 +1,6 @@
-use Rattle.std.proofs.Common.{◌≡◌, ◌<◌, ◌+◌, ◌++◌, ◌∙◌, ap, arith, Ok, Some, sym, add-one}
+use Rattle.std.proofs.Common.{◌+◌, ◌++◌, ◌∙◌, ap, arith, Ok, sym, add-one}
 use Rattle.std.specs.Prelude.{is_some}
 use Rattle.circuit.specs.Run.{standing_after}
-use Rattle.flat_stimulus.specs.Block.{sample_count}
 use Rattle.cxxsim.specs.Trace.{run_under}
 use Rattle.cxxsim.specs.TraceText.{header, sample_lines}
 use Rattle.cxxsim.proofs.Begun.{begun_then, left_whole}
