@@ -1,8 +1,8 @@
 -- What a sample shows is what its nets hold.
-use Rattle.std.proofs.Common.{◌≡◌, ℕ, zero, suc, List, [], ◌∷◌, ◌++◌, Option, Some, None, refl, sym, ◌∙◌, ap, subst, append_assoc}
+use Rattle.std.proofs.Common.{◌≡◌, ℕ, zero, suc, List, [], ◌∷◌, ◌++◌, Option, Some, refl, sym, ◌∙◌, ap, subst, append_assoc}
 use Rattle.std.specs.Prelude.{slice_get}
 use Rattle.std.specs.List.{flat_map}
-use Rattle.circuit.specs.Run.{Run, Standing, item_number, shown, shown_in, slot_number, standing_at}
+use Rattle.circuit.specs.Run.{Run, Standing, item_number, shown_in, slot_number, standing_at}
 use Rattle.circuit.specs.declared.netlist.Circuit.{Circuit}
 use Rattle.circuit.specs.declared.netlist.Item.{Item}
 use Rattle.flat_design.specs.Flat.{IsFlat}

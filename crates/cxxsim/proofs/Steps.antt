@@ -1,5 +1,5 @@
 -- A run goes on by a sample.
-use Rattle.std.proofs.Common.{◌≡◌, ℕ, suc, Option, Some, None, ◌∙◌, ap, List}
+use Rattle.std.proofs.Common.{◌≡◌, ℕ, suc, Option, Some, ◌∙◌, ap, List}
 use Rattle.std.specs.Prelude.{option_and_then}
 use Rattle.circuit.specs.Run.{Run, Standing, settled, standing_after}
 

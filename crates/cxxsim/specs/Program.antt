@@ -6,7 +6,7 @@ use Rattle.circuit.specs.declared.netlist.Circuit.{Circuit}
 use Rattle.flat_stimulus.specs.Block.{Block}
 use Rattle.outside.specs.Shelf.{File, IsTold}
 use Rattle.cxxsim.specs.Printed.{refusal_line}
-use Rattle.cxxsim.specs.Trace.{IsFault, IsRun, IsTrace}
+use Rattle.cxxsim.specs.Trace.{IsFault, IsRun, IsTrace, IsTraceBegun}
 use Rattle.cxxsim.specs.Words.{TraceCommand}
 use Rattle.cxxsim.specs.declared.refusal.Refusal.{Refusal}
 
@@ -18,6 +18,11 @@ file_limit = 536870912
 abbrev pub IsTraceOf : (List ℕ → File) → Option TraceCommand → Bool → Option (List ℕ) → Option (List ℕ) → Type 0
 IsTraceOf file None unsettled before now = ⊥
 IsTraceOf file (Some c) unsettled before now = IsTrace file_limit (file c.design) (file c.stimulus) unsettled before now
+
+-- nothing came behind what was held, or a beginning of the trace that the words ask for
+abbrev pub IsBegunOf : (List ℕ → File) → Option TraceCommand → Option (List ℕ) → Option (List ℕ) → Type 0
+IsBegunOf file None before now = now ≡ before
+IsBegunOf file (Some c) before now = IsTraceBegun file_limit (file c.design) (file c.stimulus) before now
 
 -- the words ask for a trace of files that have a run
 abbrev pub HasRun : (List ℕ → File) → Option TraceCommand → Type 0

@@ -1,5 +1,5 @@
 -- What a trace of two files is.
-use Rattle.std.specs.Prelude.{◌≡◌, ℕ, ◌<◌, ◌≤◌, ◌^◌, List, length, Bool, nat_lt, Option, Some, None, option_and_then, slice_get, slice_index}
+use Rattle.std.specs.Prelude.{◌≡◌, ◌⊎◌, ℕ, ◌<◌, ◌≤◌, ◌^◌, List, ◌++◌, length, Bool, nat_lt, Option, Some, None, option_and_then, slice_get, slice_index}
 use Rattle.circuit.specs.declared.netlist.Net.{Net}
 use Rattle.std.specs.Io.KnownBytes.{append_known}
 use Rattle.circuit.specs.Run.{Run, run_length}
@@ -9,8 +9,7 @@ use Rattle.flat_design.specs.Circuit.{circuit_of}
 use Rattle.flat_stimulus.specs.Block.{Block, row_of, sample_count}
 use Rattle.flat_stimulus.specs.Text.{block_of}
 use Rattle.outside.specs.Shelf.{File, IsOf, IsLonger}
-use Rattle.cxxsim.specs.TraceText.{trace_text}
-use Rattle.cxxsim.specs.Words.{TraceCommand}
+use Rattle.cxxsim.specs.TraceText.{run_text}
 use Rattle.cxxsim.specs.declared.refusal.Refusal.{Refusal}
 use Rattle.cxxsim.specs.declared.refusal.Refusal.TheVariants as refusal
 
@@ -49,7 +48,22 @@ pub record IsTrace (limit : ℕ) (design stimulus : File) (unsettled : Bool) (be
   pub block : Block
   pub is_run : IsRun limit design stimulus circuit block
   pub ends : unsettled ≡ nat_lt (run_length (run_under circuit block)) (sample_count block)
-  pub printed : now ≡ append_known before (trace_text (run_under circuit block) (run_length (run_under circuit block)) unsettled)
+  pub printed : now ≡ append_known before (run_text (run_under circuit block))
+
+-- a beginning of the text came behind what was held, and so much of the text is left
+pub record HasLeft (before now : Option (List ℕ)) (text left : List ℕ) : Type 0 where
+  pub gone : List ℕ
+  pub parts : text ≡ gone ++ left
+  pub held : now ≡ append_known before gone
+
+-- a beginning of the text came behind what was held: nothing, a part or all of it
+abbrev pub IsBegun : Option (List ℕ) → Option (List ℕ) → List ℕ → Type 0
+IsBegun before now text = (left : List ℕ) × HasLeft before now text left
+
+-- nothing came behind what was held, or a beginning of the trace of the two files
+abbrev pub IsTraceBegun : ℕ → File → File → Option (List ℕ) → Option (List ℕ) → Type 0
+IsTraceBegun limit design stimulus before now =
+    (now ≡ before) ⊎ ((c : Circuit) × (b : Block) × IsRun limit design stimulus c b × IsBegun before now (run_text (run_under c b)))
 
 -- a text of the file that is not in the form that is read
 pub record HasNoDesign (limit : ℕ) (file : File) : Type 0 where

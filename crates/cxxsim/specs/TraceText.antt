@@ -1,18 +1,14 @@
 -- The text of a trace: the items, a line for each sample, and how it ended. Every line ends with a line feed.
-use Rattle.std.specs.Prelude.{ℕ, zero, suc, ◌+◌, ◌/◌, List, [], ◌∷◌, ◌++◌, length, max, Bool, Option, Some, None, codes, decimal, if◌then◌else◌, slice_get}
+use Rattle.std.specs.Prelude.{ℕ, zero, suc, ◌+◌, ◌/◌, List, [], ◌∷◌, ◌++◌, length, max, Bool, nat_lt, codes, decimal, if◌then◌else◌, slice_get}
 use Rattle.std.specs.List.{flat_map}
 use Rattle.sim_base.specs.Digits.{lowest_digits}
 use Rattle.sim_base.specs.TimeText.{time_text}
-use Rattle.circuit.specs.Run.{Run, item_number, shown}
+use Rattle.circuit.specs.Run.{Run, item_number, run_length, shown}
 use Rattle.circuit.specs.declared.netlist.Circuit.{Circuit}
-use Rattle.circuit.specs.declared.netlist.Net.{Net}
 use Rattle.circuit.specs.declared.netlist.Item.{Item}
 use Rattle.circuit.specs.declared.netlist.ItemKind.{ItemKind}
 use Rattle.circuit.specs.declared.netlist.ItemKind.TheVariants as item
-
-abbrev pub width_of : Option Net → ℕ
-width_of None = 0
-width_of (Some x) = x.width
+use Rattle.flat_design.specs.Flat.{width_of}
 
 -- the width of a node in bits
 abbrev pub kind_width : Circuit → ItemKind → ℕ
@@ -53,3 +49,7 @@ last_line unsettled k = (if unsettled then codes "unsettled " else codes "end ")
 -- the samples below k, and whether the one behind them does not settle
 abbrev pub trace_text : Run → ℕ → Bool → List ℕ
 trace_text run k unsettled = header run.circuit ++ sample_lines run k ++ last_line unsettled k
+
+-- the whole text of a run
+abbrev pub run_text : Run → List ℕ
+run_text run = trace_text run (run_length run) (nat_lt (run_length run) run.count)

@@ -1,9 +1,5 @@
 -- The words of the command line.
-use Rattle.std.specs.Prelude.{ℕ, List, [], ◌∷◌, Bool, ◌&&◌, Option, Some, None, if◌then◌else◌, codes, nat_eq}
-use Rattle.std.specs.Cmp.Lexicographic.{pointwise}
-
-abbrev pub same_text : List ℕ → List ℕ → Bool
-same_text xs ys = pointwise nat_eq xs ys
+use Rattle.std.specs.Prelude.{ℕ, List, [], ◌∷◌, ◌&&◌, Option, Some, None, if◌then◌else◌, bytes_eq, codes}
 
 -- the names of the files of a trace
 pub record TraceCommand : Type 0 where
@@ -13,7 +9,7 @@ pub record TraceCommand : Type 0 where
 -- the words are `trace --design F --stimulus F`
 abbrev pub command_of : List (List ℕ) → Option TraceCommand
 command_of (mode ∷ design ∷ design_name ∷ stimulus ∷ stimulus_name ∷ []) =
-    if same_text mode (codes "trace") && (same_text design (codes "--design") && same_text stimulus (codes "--stimulus"))
+    if bytes_eq mode (codes "trace") && (bytes_eq design (codes "--design") && bytes_eq stimulus (codes "--stimulus"))
     then Some (record { design = design_name; stimulus = stimulus_name })
     else None
 command_of _ = None

@@ -6,6 +6,8 @@ mod print;
 mod program;
 mod reading;
 mod refusal;
+#[cfg(test)]
+mod tests;
 mod tracing;
 mod words;
 

@@ -2,10 +2,10 @@
 ghost use Rattle.std.specs.Prelude.{◌≡◌, ℕ, ◌<◌, ◌≤◌, ◌++◌, List, Some, decimal, length, slice_get, slice_index, OnOk};
 ghost use Rattle.circuit.specs.Run.{Run, item_number, standing_at};
 ghost use Rattle.circuit.specs.declared.netlist.Circuit.{Circuit};
-ghost use Rattle.flat_design.specs.Flat.{IsFlat, IsNodeOf};
+ghost use Rattle.flat_design.specs.Flat.{IsFlat, IsNodeOf, width_of};
 ghost use Rattle.flat_rounds.specs.Fits.{IsStandingOf};
 ghost use Rattle.sim_base.specs.TimeText.{time_text};
-ghost use Rattle.cxxsim.specs.TraceText.{header, item_line, item_width, kind_width, last_line, sample_line, value_text, values_text, width_of};
+ghost use Rattle.cxxsim.specs.TraceText.{header, item_line, item_width, kind_width, last_line, sample_line, value_text, values_text};
 
 use circuit::{Circuit, Item, ItemKind};
 use flat_rounds::Rounds;

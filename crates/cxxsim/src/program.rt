@@ -5,8 +5,8 @@ ghost use Rattle.circuit.specs.declared.netlist.Circuit.{Circuit};
 ghost use Rattle.flat_stimulus.specs.Block.{Block};
 ghost use Rattle.outside.specs.Faults.{Rose};
 ghost use Rattle.cxxsim.specs.Printed.{usage_line};
-ghost use Rattle.cxxsim.specs.Program.{AreTold, IsFaultOf, IsRefusalOf, IsTraceOf, IsWriteFault, is_status};
-ghost use Rattle.cxxsim.specs.Trace.{IsFault, IsRun, IsTrace};
+ghost use Rattle.cxxsim.specs.Program.{AreTold, IsBegunOf, IsFaultOf, IsRefusalOf, IsTraceOf, IsWriteFault, is_status};
+ghost use Rattle.cxxsim.specs.Trace.{IsFault, IsRun, IsTrace, IsTraceBegun};
 ghost use Rattle.cxxsim.specs.Words.{command_of};
 ghost use Rattle.cxxsim.specs.declared.refusal.Refusal.{Refusal};
 
@@ -37,7 +37,7 @@ enum Status {
 }
 
 /// Prints the trace of the design under the stimulus, and answers whether a sample did not settle.
-fn trace<S: Shelf, O: Sink>(
+pub(crate) fn trace<S: Shelf, O: Sink>(
     alloc: Global,
     design: &str,
     stimulus: &str,
@@ -50,6 +50,7 @@ fn trace<S: Shelf, O: Sink>(
     ensures read { IsErrOf result TraceFault.Read → Rose (S.read_faults shelf.old) (S.read_faults shelf.new) × (O.held out.new ≡ O.held out.old) }
     ensures write { IsErrOf result TraceFault.Write → Rose (O.faults out.old) (O.faults out.new) }
     ensures written { IsErrOf result TraceFault.Write → (c : Circuit) × (b : Block) × IsRun limit (S.file shelf.old design.now) (S.file shelf.old stimulus.now) c b }
+    ensures begun { IsTraceBegun limit (S.file shelf.old design.now) (S.file shelf.old stimulus.now) (O.held out.old) (O.held out.new) }
     ensures out_later { O.faults out.old ≤ O.faults out.new }
     ensures shelf_later { S.read_faults shelf.old ≤ S.read_faults shelf.new }
     ensures files { (other : List ℕ) → S.file shelf.new other ≡ S.file shelf.old other }
@@ -87,6 +88,7 @@ fn run<S: Shelf, O: Sink, G: Sink>(
     ensures refused { result ≡ Status.Refused → IsRefusalOf (S.file shelf.old) (command_of (map string_bytes words.now)) (G.held log.old) (G.held log.new) }
     ensures write_fault { result ≡ Status.WriteFault → IsWriteFault (S.file shelf.old) (command_of (map string_bytes words.now)) (Rose (O.faults out.old) (O.faults out.new)) (Rose (G.faults log.old) (G.faults log.new)) }
     ensures no_memory { result ≡ Status.NoMemory → IsSome (command_of (map string_bytes words.now)) }
+    ensures begun { IsBegunOf (S.file shelf.old) (command_of (map string_bytes words.now)) (O.held out.old) (O.held out.new) }
     ensures quiet_out { (result ≡ Status.Usage) ⊎ (result ≡ Status.ReadFault) ⊎ (result ≡ Status.Refused) → O.held out.new ≡ O.held out.old }
     ensures quiet_log { (result ≡ Status.Done) ⊎ (result ≡ Status.Unsettled) ⊎ (result ≡ Status.ReadFault) ⊎ (result ≡ Status.NoMemory) → G.held log.new ≡ G.held log.old }
     ensures out_later { O.faults out.old ≤ O.faults out.new }
@@ -146,6 +148,9 @@ pub fn cxxsim<R: AllocGlobal, S: Shelf, O: Sink, G: Sink>(
 
     // 5: only where the faults of the output or of the log rose.
     ensures write_fault { result ≡ 5 → IsWriteFault (S.file shelf.old) (command_of (map string_bytes words.now)) (Rose (O.faults out.old) (O.faults out.new)) (Rose (G.faults log.old) (G.faults log.new)) }
+
+    // At each status the output holds what it held, and behind that at most a beginning of the trace.
+    ensures begun { IsBegunOf (S.file shelf.old) (command_of (map string_bytes words.now)) (O.held out.old) (O.held out.new) }
 
     // What else stays the same.
     ensures quiet_out { (result ≡ 2) ⊎ (result ≡ 3) ⊎ (result ≡ 4) → O.held out.new ≡ O.held out.old }

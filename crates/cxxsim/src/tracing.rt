@@ -1,13 +1,13 @@
 //! The trace of a run.
 ghost use Rattle.std.specs.Prelude.{◌≡◌, ◌<◌, ◌≤◌, ◌++◌, ◌⊎◌, [], None, Ok, Some, length, false, suc, true, IfOk, IsErr, IsErrOf, nat_lt};
 ghost use Rattle.std.specs.Io.KnownBytes.{append_known};
-ghost use Rattle.circuit.specs.Run.{Run, run_length, standing_after};
+ghost use Rattle.circuit.specs.Run.{Run, run_length, standing_after, start};
 ghost use Rattle.flat_design.specs.Flat.{IsFlat};
 ghost use Rattle.flat_rounds.specs.Fits.{AreInputs, IsStandingOf};
 ghost use Rattle.flat_stimulus.specs.Block.{row_of, sample_count};
 ghost use Rattle.outside.specs.Faults.{Rose};
-ghost use Rattle.cxxsim.specs.Trace.{AreSamples, run_under};
-ghost use Rattle.cxxsim.specs.TraceText.{sample_line, trace_text};
+ghost use Rattle.cxxsim.specs.Trace.{AreSamples, HasLeft, IsBegun, run_under};
+ghost use Rattle.cxxsim.specs.TraceText.{header, run_text, sample_line, sample_lines};
 
 use crate::print::{push_header, push_last_line, push_sample};
 use crate::refusal::TraceFault;
@@ -53,18 +53,24 @@ fn trace_sample(
 /// Hands the text to the output.
 fn flush<O: Sink>(text: &mut Vec<u8>, out: &mut O) -> Result<(), TraceFault>
     ensures ok { IfOk result (λ _. (O.held out.new ≡ append_known (O.held out.old) text.old.items) × (text.new.items ≡ [])) }
+    ensures begun { IsBegun (O.held out.old) (O.held out.new) text.old.items }
     ensures write { IsErrOf result TraceFault.Write → Rose (O.faults out.old) (O.faults out.new) }
     ensures only { IsErr result → IsErrOf result TraceFault.Write }
     ensures later { O.faults out.old ≤ O.faults out.new }
 {
-    put_all(out, text).map_err(|_| TraceFault::Write)?;
-    text.clear();
-    Ok(())
+    match put_all(out, text) {
+        Ok(()) => {
+            text.clear();
+            Ok(())
+        }
+        Err(_) => Err(TraceFault::Write),
+    }
 }
 
 /// Hands the text to the output where it is long enough.
 fn flush_long<O: Sink>(text: &mut Vec<u8>, out: &mut O) -> Result<(), TraceFault>
-    ensures ok { IfOk result (λ _. append_known (O.held out.new) text.new.items ≡ append_known (O.held out.old) text.old.items) }
+    ensures ok { IfOk result (λ _. HasLeft (O.held out.old) (O.held out.new) text.old.items text.new.items) }
+    ensures begun { IsBegun (O.held out.old) (O.held out.new) text.old.items }
     ensures write { IsErrOf result TraceFault.Write → Rose (O.faults out.old) (O.faults out.new) }
     ensures only { IsErr result → IsErrOf result TraceFault.Write }
     ensures later { O.faults out.old ≤ O.faults out.new }
@@ -83,6 +89,42 @@ fn zeros(alloc: Global, count: usize) -> Result<Vec<u64>, NoMemory>
     Ok(words)
 }
 
+/// Puts the lines of the samples behind the header, up to the first that does not settle, and hands on
+/// what is long enough. Answers how many samples there are.
+fn write_samples<O: Sink>(
+    circuit: &Circuit,
+    stimulus: &FlatStimulus,
+    rounds: &mut Rounds,
+    inputs: &mut [u64],
+    text: &mut Vec<u8>,
+    out: &mut O,
+) -> Result<u64, TraceFault>
+    requires flat { IsFlat circuit.now }
+    requires samples { AreSamples circuit.now stimulus.now }
+    requires room { length inputs.old ≡ length circuit.now.inputs }
+    requires fits { IsStandingOf circuit.now rounds.old }
+    requires starts { rounds.old ≡ start circuit.now }
+    requires text { text.old.items ≡ header circuit.now }
+    ensures length { IfOk result (λ done. done ≡ run_length (run_under circuit.now stimulus.now)) }
+    ensures left { IfOk result (λ done. HasLeft (O.held out.old) (O.held out.new) (header circuit.now ++ sample_lines (run_under circuit.now stimulus.now) done) text.new.items) }
+    ensures begun { IsErr result → IsBegun (O.held out.old) (O.held out.new) (run_text (run_under circuit.now stimulus.now)) }
+    ensures write { IsErrOf result TraceFault.Write → Rose (O.faults out.old) (O.faults out.new) }
+    ensures only { IsErr result → IsErrOf result TraceFault.Write ⊎ IsErrOf result TraceFault.NoMemory }
+    ensures later { O.faults out.old ≤ O.faults out.new }
+{
+    length_of_run();
+    let count = stimulus.count();
+    let mut done = 0;
+    while done < count {
+        if !trace_sample(circuit, stimulus, done, rounds, inputs, text)? {
+            return Ok(done);
+        }
+        done += 1;
+        flush_long(text, out)?;
+    }
+    Ok(done)
+}
+
 /// Prints the trace of the circuit under the stimulus, and answers whether a sample did not settle.
 pub fn write_trace<O: Sink>(
     alloc: Global,
@@ -93,26 +135,18 @@ pub fn write_trace<O: Sink>(
     requires flat { IsFlat circuit.now }
     requires samples { AreSamples circuit.now stimulus.now }
     ensures ends { IfOk result (λ unsettled. unsettled ≡ nat_lt (run_length (run_under circuit.now stimulus.now)) (sample_count stimulus.now)) }
-    ensures printed { IfOk result (λ unsettled. O.held out.new ≡ append_known (O.held out.old) (trace_text (run_under circuit.now stimulus.now) (run_length (run_under circuit.now stimulus.now)) unsettled)) }
+    ensures printed { IfOk result (λ _. O.held out.new ≡ append_known (O.held out.old) (run_text (run_under circuit.now stimulus.now))) }
+    ensures begun { IsBegun (O.held out.old) (O.held out.new) (run_text (run_under circuit.now stimulus.now)) }
     ensures write { IsErrOf result TraceFault.Write → Rose (O.faults out.old) (O.faults out.new) }
     ensures only { IsErr result → IsErrOf result TraceFault.Write ⊎ IsErrOf result TraceFault.NoMemory }
     ensures later { O.faults out.old ≤ O.faults out.new }
 {
-    length_of_run();
     let mut rounds = Rounds::new(alloc, circuit)?;
     let mut inputs = zeros(alloc, circuit.inputs.len())?;
     let mut text = Vec::new(alloc);
     push_header(&mut text, circuit)?;
-    let count = stimulus.count();
-    let mut done = 0;
-    while done < count {
-        if !trace_sample(circuit, stimulus, done, &mut rounds, &mut inputs, &mut text)? {
-            break;
-        }
-        done += 1;
-        flush_long(&mut text, out)?;
-    }
-    let unsettled = done < count;
+    let done = write_samples(circuit, stimulus, &mut rounds, &mut inputs, &mut text, out)?;
+    let unsettled = done < stimulus.count();
     push_last_line(&mut text, unsettled, done)?;
     flush(&mut text, out)?;
     Ok(unsettled)

@@ -1,6 +1,6 @@
 -- What holds of the circuit of a flat module: whole nets of at most 64 bits, and cells in an order in which
 -- each reads only what stands before it.
-use Rattle.std.specs.Prelude.{◌≡◌, ℕ, ◌<◌, ◌≤◌, ◌⊎◌, List, [], ◌∷◌, length, true, false, Some, slice_get, slice_index}
+use Rattle.std.specs.Prelude.{◌≡◌, ℕ, ◌<◌, ◌≤◌, ◌⊎◌, List, [], ◌∷◌, length, true, false, Some, slice_get, slice_index, Option, None}
 use Rattle.circuit.specs.declared.netlist.Circuit.{Circuit}
 use Rattle.circuit.specs.declared.netlist.Net.{Net}
 use Rattle.circuit.specs.declared.netlist.Drive.{Drive}
@@ -17,6 +17,11 @@ use Rattle.circuit.specs.declared.netlist.ItemKind.TheVariants as item
 -- the net stands there and has this width
 abbrev pub HasWidth : Circuit → ℕ → ℕ → Type 0
 HasWidth c net width = (x : Net) × (slice_get c.nets net ≡ Some x) × (x.width ≡ width)
+
+-- the width of a net that may be there
+abbrev pub width_of : Option Net → ℕ
+width_of None = 0
+width_of (Some x) = x.width
 
 -- a width that one word of 64 bits holds
 abbrev pub IsWordWidth : ℕ → Type 0

@@ -14,9 +14,9 @@ use Rattle.circuit.specs.declared.netlist.Net.{Net}
 use Rattle.circuit.specs.declared.netlist.Item.{Item}
 use Rattle.circuit.specs.declared.netlist.ItemKind.{ItemKind}
 use Rattle.circuit.specs.declared.netlist.ItemKind.TheVariants as item
-use Rattle.flat_design.specs.Flat.{IsFlat}
+use Rattle.flat_design.specs.Flat.{width_of, IsFlat}
 use Rattle.flat_stimulus.specs.Block.{Block, no_row, row_of, sample_count}
-use Rattle.flat_stimulus.specs.Text.{AreWordColumns, block_of, block_of_lines, checked_row, limited, column_onto, columns_among, columns_of, numbers_of_columns, row_from, row_in, rows_in, values_of, width_of}
+use Rattle.flat_stimulus.specs.Text.{AreWordColumns, block_of, block_of_lines, checked_row, limited, column_onto, columns_among, columns_of, numbers_of_columns, row_from, row_in, rows_in, values_of}
 use Rattle.flat_stimulus.specs.Words.{lines_of, words_of}
 use Rattle.flat_stimulus.specs.declared.column.Column.{Column}
 use Rattle.flat_stimulus.specs.declared.row.BlockRow.{BlockRow}

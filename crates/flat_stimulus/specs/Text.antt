@@ -1,24 +1,19 @@
 -- The first form of a stimulus: one block.
-use Rattle.std.specs.Prelude.{◌≡◌, ℕ, ◌+◌, ◌*◌, ◌≤◌, ◌-◌, ◌==◌, List, [], ◌∷◌, ◌++◌, length, take, position, slice_index_or, Bool, ◌&&◌, nat_eq, nat_le, nat_lt, Option, Some, None, option_and_then, if◌then◌else◌, codes, slice_get}
+use Rattle.std.specs.Prelude.{◌≡◌, ℕ, ◌+◌, ◌*◌, ◌≤◌, ◌-◌, ◌==◌, List, [], ◌∷◌, ◌++◌, length, take, position, slice_index_or, ◌&&◌, nat_le, nat_lt, Option, Some, None, option_and_then, if◌then◌else◌, bytes_eq, codes, slice_get}
 use Rattle.std.specs.List.{flat_map}
 use Rattle.std.specs.Option.{option_map}
-use Rattle.std.specs.Cmp.Lexicographic.{pointwise}
 use Rattle.sim_base.specs.BitValue.{hexadecimal_value}
 use Rattle.sim_base.specs.Digits.{digits_number}
 use Rattle.sim_base.specs.TimeText.{largest_time, read_time}
 use Rattle.circuit.specs.declared.netlist.Circuit.{Circuit}
-use Rattle.circuit.specs.declared.netlist.Net.{Net}
 use Rattle.circuit.specs.declared.netlist.Item.{Item}
 use Rattle.circuit.specs.declared.netlist.ItemKind.{ItemKind}
 use Rattle.circuit.specs.declared.netlist.ItemKind.TheVariants as item
+use Rattle.flat_design.specs.Flat.{width_of}
 use Rattle.flat_stimulus.specs.declared.row.BlockRow.{BlockRow}
 use Rattle.flat_stimulus.specs.declared.column.Column.{Column}
 use Rattle.flat_stimulus.specs.Block.{Block, sample_count}
 use Rattle.flat_stimulus.specs.Words.{lines_of, words_of}
-
-abbrev pub width_of : Option Net → ℕ
-width_of None = 0
-width_of (Some x) = x.width
 
 abbrev pub column_onto : Circuit → List ℕ → ItemKind → List Column → List Column
 column_onto c name (item.Node net lsb_at input output) more =
@@ -37,9 +32,6 @@ unfoldable pub numbers_of_columns : List Column → List ℕ → Option (List �
 numbers_of_columns columns [] = Some []
 numbers_of_columns columns (net ∷ nets) =
     option_and_then (λ n. option_map (λ ns. n ∷ ns) (numbers_of_columns columns nets)) (position (λ column. column.net == net) columns)
-
-abbrev pub same_text : List ℕ → List ℕ → Bool
-same_text xs ys = pointwise nat_eq xs ys
 
 -- the numbers of a row's values, one for each column and below 2 to its width
 unfoldable pub values_of : List Column → List (List ℕ) → Option (List ℕ)
@@ -79,7 +71,7 @@ limited b = if nat_le 1 (length b.rows) && nat_le (sample_count b) 16777216 && n
 -- `block REPEATS PERIOD`
 abbrev pub head_from : List (List ℕ) → Option (ℕ × ℕ)
 head_from (word ∷ repeats ∷ period ∷ []) =
-    if same_text word (codes "block") then option_and_then (λ n. option_map (λ time. (n, time)) (read_time period)) (repeats_of repeats) else None
+    if bytes_eq word (codes "block") then option_and_then (λ n. option_map (λ time. (n, time)) (read_time period)) (repeats_of repeats) else None
 head_from _ = None
 
 abbrev pub head_of : List ℕ → Option (ℕ × ℕ)
@@ -88,7 +80,7 @@ head_of line = option_and_then head_from (words_of line)
 -- the lines up to a last one that is `end`
 abbrev pub before_end : List (List ℕ) → Option (List (List ℕ))
 before_end lines =
-    if nat_lt 0 (length lines) && same_text (slice_index_or lines (length lines - 1) []) (codes "end")
+    if nat_lt 0 (length lines) && bytes_eq (slice_index_or lines (length lines - 1) []) (codes "end")
     then Some (take (length lines - 1) lines)
     else None
 
@@ -108,7 +100,7 @@ block_in columns inputs head lines =
 -- `stimulus 0`, the names of the inputs, the block's head, its rows and `end`, each a line
 abbrev pub block_of_lines : List Column → List ℕ → List (List ℕ) → Option Block
 block_of_lines columns inputs (version ∷ names ∷ head ∷ rest) =
-    if same_text version (codes "stimulus 0") && same_text names (inputs_line columns)
+    if bytes_eq version (codes "stimulus 0") && bytes_eq names (inputs_line columns)
     then option_and_then (block_in columns inputs head) (before_end rest)
     else None
 block_of_lines columns inputs _ = None

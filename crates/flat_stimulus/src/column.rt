@@ -1,7 +1,7 @@
 //! The columns of a stimulus' text.
 ghost use Rattle.std.specs.Prelude.{◌≡◌, ◌++◌, [], ◌∷◌, ◌<◌, ◌==◌, Err, None, Some, IfOk, length, position, slice_get};
-ghost use Rattle.flat_design.specs.Flat.{IsFlat, IsNodeOf};
-ghost use Rattle.flat_stimulus.specs.Text.{columns_among, columns_of, inputs_line, numbers_of_columns, width_of};
+ghost use Rattle.flat_design.specs.Flat.{IsFlat, IsNodeOf, width_of};
+ghost use Rattle.flat_stimulus.specs.Text.{columns_among, columns_of, inputs_line, numbers_of_columns};
 
 use circuit::{Circuit, Item, ItemKind};
 use flat_text::FlatFault;

@@ -1,18 +1,17 @@
 //! A stimulus of one block, read from its text.
-ghost use Rattle.std.specs.Prelude.{◌≡◌, ℕ, ◌<◌, ◌≤◌, ◌^◌, Err, None, Some, IfOk, MatchOption, length, map, slice_get, slice_index};
-ghost use Rattle.sim_base.specs.Digits.{digits_number};
+ghost use Rattle.std.specs.Prelude.{◌≡◌, ℕ, ◌<◌, ◌≤◌, ◌^◌, Err, None, Some, IfOk, MatchOption, bytes_eq, length, map, slice_get, slice_index};
 ghost use Rattle.circuit.specs.declared.netlist.Net.{Net};
 ghost use Rattle.flat_design.specs.Flat.{IsFlat};
 ghost use Rattle.flat_stimulus.specs.Block.{row_of, sample_count};
 ghost use Rattle.flat_stimulus.specs.declared.row.BlockRow.{BlockRow as TheRow};
-ghost use Rattle.flat_stimulus.specs.Text.{before_end, block_in, block_of, block_of_lines, columns_of, head_from, head_of, limited, repeats_of, same_text};
+ghost use Rattle.flat_stimulus.specs.Text.{before_end, block_in, block_of, block_of_lines, columns_of, head_from, head_of, limited, repeats_of};
 
 use crate::column::{Column, columns_of, line_of, numbers_of};
 use crate::row::{BlockRow, read_rows};
 use crate::words::{read_lines, read_words};
 use circuit::Circuit;
 use flat_text::FlatFault;
-use sim_base::Time;
+use sim_base::{Time, number_in_digits};
 use sqlite_items::Items;
 use std::alloc::Global;
 use std::marker::Model;
@@ -80,24 +79,6 @@ fn copy_inputs(values: &[u64], columns: &[usize], into: &mut [u64])
     }
 }
 
-/// The number of 1 to `most` decimal digits.
-fn number_in_digits(text: &[u8], most: usize) -> Option<u64>
-    requires { most ≤ 18 }
-    ensures { result ≡ digits_number most text.now }
-{
-    if text.is_empty() || text.len() > most {
-        return None;
-    }
-    let mut number = 0u64;
-    for byte in text {
-        if !byte.is_ascii_digit() {
-            return None;
-        }
-        number = number * 10 + u64::from(*byte - b'0');
-    }
-    Some(number)
-}
-
 /// How often a block comes.
 fn read_repeats(word: &[u8]) -> Option<u64>
     ensures { result ≡ repeats_of word.now }
@@ -112,7 +93,7 @@ fn read_repeats(word: &[u8]) -> Option<u64>
 
 /// Whether the bytes are the same.
 fn is_text(line: &[u8], text: &[u8]) -> bool
-    ensures { result ≡ same_text line.now text.now }
+    ensures { result ≡ bytes_eq line.now text.now }
 {
     line == text
 }

@@ -1,4 +1,5 @@
 pub mod BinaryDigits
+pub mod Numbers
 pub mod Parts
 pub mod Steps
 pub mod TextLines

@@ -6,7 +6,7 @@ ghost use Rattle.flat_text.specs.Constants.{number_of, bits_of, bits_of_digits, 
 use crate::fault::FlatFault;
 use crate::module::{Constant, Operand};
 use crate::words::place_of;
-use sim_base::{Bits, Name, NoMemory};
+use sim_base::{Bits, Name, NoMemory, number_in_digits};
 use std::alloc::Global;
 
 /// How many decimal digits a number has at most.
@@ -19,17 +19,8 @@ const WIDEST: u32 = 67_108_864;
 pub(crate) fn number_of(word: &[u8]) -> Option<u32>
     ensures { result ≡ number_of word.now }
 {
-    if word.is_empty() || word.len() > MOST_DIGITS {
-        return None;
-    }
-    let mut number = 0u32;
-    for byte in word {
-        if !byte.is_ascii_digit() {
-            return None;
-        }
-        number = number * 10 + u32::from(*byte - b'0');
-    }
-    Some(number)
+    let number = number_in_digits(word, MOST_DIGITS)?;
+    Some(number as u32)
 }
 
 /// The value of so many binary digits, the most significant first.

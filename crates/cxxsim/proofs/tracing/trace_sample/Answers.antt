@@ -1,7 +1,6 @@
-use Rattle.std.proofs.Common.{◌≡◌, ◌++◌, None, Some, suc, refl, sym, true, false}
+use Rattle.std.proofs.Common.{◌≡◌, None, Some, suc, refl, sym}
 use Rattle.circuit.specs.Run.{standing_after}
 use Rattle.cxxsim.specs.Trace.{run_under}
-use Rattle.cxxsim.specs.TraceText.{sample_line}
 use Rattle.cxxsim.proofs.Steps.{goes_on}
 use Rattle.cxxsim.proofs.tracing.trace_sample.Goals as goal
 

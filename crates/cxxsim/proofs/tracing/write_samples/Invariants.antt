@@ -1,19 +1,17 @@
 use Rattle.std.proofs.Common.{◌≡◌, ◌++◌, ◌≤◌, ◌-◌, Some, length}
-use Rattle.std.specs.Io.KnownBytes.{append_known}
 use Rattle.circuit.specs.Run.{standing_after}
 use Rattle.flat_rounds.specs.Fits.{IsStandingOf}
-use Rattle.flat_stimulus.specs.Block.{sample_count}
-use Rattle.cxxsim.specs.Trace.{run_under}
+use Rattle.cxxsim.specs.Trace.{HasLeft, run_under}
 use Rattle.cxxsim.specs.TraceText.{header, sample_lines}
-use Rattle.cxxsim.proofs.tracing.write_trace.Given as goal
+use Rattle.cxxsim.proofs.tracing.write_samples.Given as goal
 
 abbrev pub invariant-loop-done : goal.invariant-loop-done
 invariant-loop-done g l = record {
   within : l.done ≤ l.count;
-  room : length l.inputs.items ≡ length l.circuit.inputs;
+  room : length l.inputs ≡ length l.circuit.inputs;
   fits : IsStandingOf l.circuit l.rounds;
   stands : standing_after (run_under l.circuit l.stimulus) l.done ≡ Some l.rounds;
-  printed : append_known (g.O.Sink.held l.out) l.text.items ≡ append_known (g.O.Sink.held l.fn.out) (header l.circuit ++ sample_lines (run_under l.circuit l.stimulus) l.done);
+  printed : HasLeft (g.O.Sink.held l.fn.out) (g.O.Sink.held l.out) (header l.circuit ++ sample_lines (run_under l.circuit l.stimulus) l.done) l.text.items;
   later : g.O.Sink.faults l.fn.out ≤ g.O.Sink.faults l.out;
 }
 

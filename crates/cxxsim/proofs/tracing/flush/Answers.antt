@@ -1,0 +1,9 @@
+use Rattle.std.proofs.Common.{List, ℕ, subst}
+use Rattle.outside.specs.Sink.{TookPart}
+use Rattle.cxxsim.proofs.Begun.{begun_part}
+use Rattle.cxxsim.proofs.tracing.flush.Goals as goal
+
+pub returns-in-Err-clause-begun : goal.returns-in-Err-clause-begun
+returns-in-Err-clause-begun g c =
+    begun_part (g.O.Sink.held c.args.out.now) (g.O.Sink.held c.put_all.new.sink) c.args.text.now.items
+    (subst (λ (bytes : List ℕ). TookPart (g.O.Sink.held c.args.out.now) (g.O.Sink.held c.put_all.new.sink) bytes) c.deref.ensures.value c.in-Err.ensures.err)
