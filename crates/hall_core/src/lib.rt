@@ -1,0 +1,13 @@
+//! The history of a run: which entries may follow which, what they say, and the log.
+#![tactic(auto)]
+
+mod entry;
+mod hall;
+mod history;
+mod log;
+mod standing;
+
+pub use entry::{Act, Entry, Goal, Why};
+pub use hall::Hall;
+pub use history::History;
+pub use log::log_text;
