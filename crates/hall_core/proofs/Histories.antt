@@ -49,28 +49,32 @@ push-nil (y ∷ ys) last h = cons-nil y (ys ++ last ∷ []) h
 Legal-push : (run : RunFacts) (history : List Entry) (last : Entry) → Follows run history → Next run history last → Legal run (history ++ last ∷ [])
 Legal-push run history last follows next = (push-nil history last, Follows-push run history last follows next)
 
+no_place : (run : RunFacts) → Follows run []
+no_place run before more e h = absurd (no_more before e more h)
+
+Follows-legal : (run : RunFacts) (history : List Entry) → (history ≢ [] → Legal run history) → Follows run history
+Follows-legal run [] legal = no_place run
+Follows-legal run (e ∷ history) legal = (legal (cons-nil e history)).1
+
 -- an entry that may come next and fits the run keeps the history legal
-pub legal_step : (count : ℕ) (history : List Entry) (e : Entry) (new : List Entry) → new ≡ history ++ e ∷ [] → allowed count (replay history) e ≡ true → (run : RunFacts) → run.count ≡ count → Follows run history → Meets run (replay history) e → Legal run new
-legal_step count history e new is may run same follows meets =
-    subst (λ z. Legal run z) (sym is) (Legal-push run history e follows (record { allows = subst (λ z. allowed z (replay history) e ≡ true) (sym same) may; meets = meets }))
+pub legal_step : (count : ℕ) (history : List Entry) (e : Entry) (new : List Entry) → new ≡ history ++ e ∷ [] → allowed count (replay history) e ≡ true → (run : RunFacts) → run.count ≡ count → (history ≢ [] → Legal run history) → Meets run (replay history) e → Legal run new
+legal_step count history e new is may run same legal meets =
+    subst (λ z. Legal run z) (sym is) (Legal-push run history e (Follows-legal run history legal) (record { allows = subst (λ z. allowed z (replay history) e ≡ true) (sym same) may; meets = meets }))
 
 -- the beginnings of a legal history are legal
 Follows-beginning : (run : RunFacts) (begun more : List Entry) → Follows run (begun ++ more) → Follows run begun
 Follows-beginning run begun more follows before rest e h = follows before (rest ++ more) e (ap (λ z. z ++ more) h ∙ append_assoc' before (e ∷ rest) more)
 
-pub Legal-beginning : (run : RunFacts) (begun more : List Entry) → begun ≢ [] → Legal run (begun ++ more) → Legal run begun
-Legal-beginning run begun more some legal = (some, Follows-beginning run begun more legal.1)
+pub legal_beginning : (run : RunFacts) (begun more : List Entry) → begun ≢ [] → Legal run (begun ++ more) → Legal run begun
+legal_beginning run begun more some legal = (some, Follows-beginning run begun more legal.1)
 
 -- what steps lead to is legal
-no_place : (run : RunFacts) → Follows run []
-no_place run before more e h = absurd (no_more before e more h)
-
 pub Follows-taken : (run : RunFacts) (history : List Entry) → Taken run history → Follows run history
 Follows-taken run _ none = no_place run
 Follows-taken run _ (one_more {history} taken e next) = Follows-push run history e (Follows-taken run history taken) next
 
-pub Legal-taken : (run : RunFacts) (history : List Entry) → Taken run history → history ≢ [] → Legal run history
-Legal-taken run history taken some = (some, Follows-taken run history taken)
+pub legal_taken : (run : RunFacts) (history : List Entry) → Taken run history → history ≢ [] → Legal run history
+legal_taken run history taken some = (some, Follows-taken run history taken)
 
 taken_on : (run : RunFacts) (before rest : List Entry) → Taken run before → Follows run (before ++ rest) → Taken run (before ++ rest)
 taken_on run before [] taken follows = subst (λ z. Taken run z) (sym (append-nil before)) taken
@@ -80,5 +84,5 @@ taken_on run before (e ∷ rest) taken follows =
       (taken_on run (before ++ e ∷ []) rest (one_more taken e (follows before rest e refl)) (subst (λ z. Follows run z) (sym same) follows))
 
 -- steps lead to every legal history
-pub Taken-legal : (run : RunFacts) (history : List Entry) → Legal run history → Taken run history
-Taken-legal run history legal = taken_on run [] history none legal.1
+pub taken_legal : (run : RunFacts) (history : List Entry) → Legal run history → Taken run history
+taken_legal run history legal = taken_on run [] history none legal.1

@@ -1,8 +1,8 @@
 //! The history with what it says, kept up entry by entry.
-ghost use Rattle.std.specs.Prelude.{◌≡◌, ◌<◌, ◌≤◌, ◌+◌, [], ◌∷◌, ◌++◌, true, IfOk, IsOk, OnOk, OnErr};
+ghost use Rattle.std.specs.Prelude.{◌≡◌, ◌≢◌, ◌<◌, ◌≤◌, ◌+◌, [], ◌∷◌, ◌++◌, true, IfOk, IsOk, OnOk, OnErr};
 ghost use Rattle.hall_core.specs.Hall.{entries};
 ghost use Rattle.hall_core.specs.Replay.{replay};
-ghost use Rattle.hall_core.specs.Legal.{RunFacts, Follows, Legal, Meets, allowed};
+ghost use Rattle.hall_core.specs.Legal.{RunFacts, Legal, Meets, allowed};
 
 use crate::entry::{Entry, Goal};
 use crate::history::History;
@@ -55,8 +55,9 @@ impl Hall {
     pub fn step(&mut self, entry: Entry) -> Result<(), NoMemory>
         requires { allowed self.old.count (replay self.old.history) entry ≡ true }
         ensures added { OnOk result (self.new.history ≡ self.old.history ++ entry ∷ []) }
-        // A run that the entry fits too may have the history.
-        ensures legal { OnOk result ((run : RunFacts) → run.count ≡ self.old.count → Follows run self.old.history
+        // A legal history, or an empty one, is legal then for each run that the entry fits too.
+        ensures legal { OnOk result ((run : RunFacts) → run.count ≡ self.old.count
+            → (self.old.history ≢ [] → Legal run self.old.history)
             → Meets run (replay self.old.history) entry → Legal run self.new.history) }
         ensures same_run { self.new.count ≡ self.old.count }
         ensures spare { 0 < self.old.spare → IsOk result }

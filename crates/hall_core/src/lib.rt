@@ -4,10 +4,12 @@
 mod entry;
 mod hall;
 mod history;
+mod laws;
 mod log;
 mod standing;
 
 pub use entry::{Act, Entry, Goal, Why};
 pub use hall::Hall;
 pub use history::History;
+pub use laws::{law_of_beginnings, law_of_hold, law_of_progress, law_of_steps};
 pub use log::log_text;
