@@ -81,7 +81,7 @@ taken_on run before [] taken follows = subst (λ z. Taken run z) (sym (append-ni
 taken_on run before (e ∷ rest) taken follows =
     let same : (before ++ e ∷ []) ++ rest ≡ before ++ e ∷ rest = append_assoc' before (e ∷ []) rest in
     subst (λ z. Taken run z) same
-      (taken_on run (before ++ e ∷ []) rest (one_more taken e (follows before rest e refl)) (subst (λ z. Follows run z) (sym same) follows))
+    (taken_on run (before ++ e ∷ []) rest (one_more taken e (follows before rest e refl)) (subst (λ z. Follows run z) (sym same) follows))
 
 -- steps lead to every legal history
 pub taken_legal : (run : RunFacts) (history : List Entry) → Legal run history → Taken run history

@@ -183,4 +183,4 @@ holds run before more e legal held no_run recording =
     let begun = of_some run before legal.0 (IsBegun-taken run before (taken_legal run before legal)) in
     let still = IsHeld-all (replay before) more no_run (subst (λ z. IsHeld z) (sym held) by_hold) in
     subst (λ z. allowed run.count z e ≡ false) (sym (fold-append after start before more))
-      (nothing_recorded run.count (fold after (replay before) more) e _ refl still recording (IsBegun-all (replay before) more begun))
+    (nothing_recorded run.count (fold after (replay before) more) e _ refl still recording (IsBegun-all (replay before) more begun))

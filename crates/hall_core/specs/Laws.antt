@@ -44,3 +44,7 @@ IsSmall (entry.Record m hit) = m < 2 ^ 64
 IsSmall entry.Unsettled = Unit {0}
 IsSmall (entry.Close c why) = c < 2 ^ 64
 IsSmall entry.End = Unit {0}
+
+unfoldable pub AllSmall : List Entry → Type 0
+AllSmall [] = Unit {0}
+AllSmall (e ∷ es) = IsSmall e × AllSmall es

@@ -3,8 +3,9 @@ ghost use Rattle.std.specs.Prelude.{◌≡◌, ◌≢◌, ◌≤◌, List, [], �
 ghost use Rattle.std.specs.List.{list_any};
 ghost use Rattle.hall_core.specs.declared.entry.Entry.{Entry};
 ghost use Rattle.hall_core.specs.declared.entry.Goal.TheVariants.{Hold as Held};
-ghost use Rattle.hall_core.specs.Laws.{Taken, is_recording, is_run};
+ghost use Rattle.hall_core.specs.Laws.{AllSmall, Taken, is_recording, is_run};
 ghost use Rattle.hall_core.specs.Legal.{Legal, RunFacts, allowed};
+ghost use Rattle.hall_core.specs.LogText.{log_text};
 ghost use Rattle.hall_core.specs.Replay.{replay};
 
 /// Every beginning of a legal history is legal, but for the empty one.
@@ -34,4 +35,11 @@ pub fn law_of_hold()
     ensures { (run : RunFacts) → (before more : List Entry) → (e : Entry)
         → Legal run before → (replay before).goal ≡ Held → list_any is_run more ≡ false → is_recording e ≡ true
         → allowed run.count (replay (before ++ more)) e ≡ false }
+{}
+
+/// Two histories with the same log are one history.
+#[tactic(auto, using(crate::proofs::Texts::same_history))]
+pub fn law_of_logs()
+    ensures { (first second : List Entry) → AllSmall first → AllSmall second → log_text first ≡ log_text second
+        → first ≡ second }
 {}

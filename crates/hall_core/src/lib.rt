@@ -11,5 +11,8 @@ mod standing;
 pub use entry::{Act, Entry, Goal, Why};
 pub use hall::Hall;
 pub use history::History;
-pub use laws::{law_of_beginnings, law_of_hold, law_of_progress, law_of_steps};
+pub use laws::{law_of_beginnings, law_of_hold, law_of_logs, law_of_progress, law_of_steps};
 pub use log::log_text;
+
+#[cfg(test)]
+mod tests;
