@@ -3,6 +3,8 @@ use crate::{
     law_of_progress, law_of_steps, log_text,
 };
 use sim_base::Kinds;
+use std::alloc::Global;
+use std::process::Abort;
 use std::test::Fail;
 
 const NONE: Kinds = Kinds {
@@ -27,8 +29,14 @@ fn to(n: u64) -> Goal {
 }
 
 /// The entries, each of which may come next, with the number of samples and the goal behind it.
-fn goes(rt: &HostRuntime, count: u64, steps: &[(Entry, u64, Goal)], log: &str) -> Result<(), Fail> {
-    let mut hall = Hall::new(rt.alloc(), count)?;
+fn goes(
+    rt: &impl Abort,
+    alloc: Global,
+    count: u64,
+    steps: &[(Entry, u64, Goal)],
+    log: &str,
+) -> Result<(), Fail> {
+    let mut hall = Hall::new(alloc, count)?;
     for (entry, n, goal) in steps {
         assert!(rt; hall.allows(*entry), "{entry:?}");
         hall.step(*entry)?;
@@ -36,7 +44,7 @@ fn goes(rt: &HostRuntime, count: u64, steps: &[(Entry, u64, Goal)], log: &str) -
         assert_eq!(rt; hall.goal(), *goal, "{entry:?}");
     }
     assert_eq!(rt; hall.history().as_slice().len(), steps.len());
-    let text = log_text(rt.alloc(), hall.history())?;
+    let text = log_text(alloc, hall.history())?;
     assert_eq!(rt; text.as_slice(), log.as_bytes());
     Ok(())
 }
@@ -45,6 +53,7 @@ fn goes(rt: &HostRuntime, count: u64, steps: &[(Entry, u64, Goal)], log: &str) -
 fn a_run_that_does_not_settle_at_sample_1(rt: HostRuntime) -> Result<(), Fail> {
     goes(
         &rt,
+        rt.alloc(),
         2,
         &[
             (Entry::Record(1, false), 1, Goal::Hold),
@@ -64,6 +73,7 @@ fn a_run_that_does_not_settle_at_sample_1(rt: HostRuntime) -> Result<(), Fail> {
 fn a_run_without_a_time_goes_to_the_end(rt: HostRuntime) -> Result<(), Fail> {
     goes(
         &rt,
+        rt.alloc(),
         512,
         &[
             (Entry::Record(1, false), 1, Goal::Hold),
@@ -88,6 +98,7 @@ fn a_run_without_a_time_goes_to_the_end(rt: HostRuntime) -> Result<(), Fail> {
 fn a_run_to_what_is_recorded_reaches_its_goal_at_once(rt: HostRuntime) -> Result<(), Fail> {
     goes(
         &rt,
+        rt.alloc(),
         6,
         &[
             (Entry::Record(1, false), 1, Goal::Hold),
@@ -107,6 +118,7 @@ fn a_run_to_what_is_recorded_reaches_its_goal_at_once(rt: HostRuntime) -> Result
 fn a_pause_and_a_shorter_run(rt: HostRuntime) -> Result<(), Fail> {
     goes(
         &rt,
+        rt.alloc(),
         512,
         &[
             (Entry::Record(1, false), 1, Goal::Hold),
@@ -129,6 +141,7 @@ fn a_run_stops_at_a_hit(rt: HostRuntime) -> Result<(), Fail> {
     };
     goes(
         &rt,
+        rt.alloc(),
         9,
         &[
             (Entry::Record(1, false), 1, Goal::Hold),
@@ -177,8 +190,8 @@ close 18446744073709551615 memory\nclose 18446744073709551615 over\n";
     Ok(())
 }
 
-fn after(rt: &HostRuntime, entries: &[Entry]) -> Result<Hall, Fail> {
-    let mut hall = Hall::new(rt.alloc(), 9)?;
+fn after(rt: &impl Abort, alloc: Global, entries: &[Entry]) -> Result<Hall, Fail> {
+    let mut hall = Hall::new(alloc, 9)?;
     for entry in entries {
         assert!(rt; hall.allows(*entry), "{entry:?}");
         hall.step(*entry)?;
@@ -186,8 +199,13 @@ fn after(rt: &HostRuntime, entries: &[Entry]) -> Result<Hall, Fail> {
     Ok(hall)
 }
 
-fn none_is_allowed(rt: &HostRuntime, before: &[Entry], entries: &[Entry]) -> Result<(), Fail> {
-    let hall = after(rt, before)?;
+fn none_is_allowed(
+    rt: &impl Abort,
+    alloc: Global,
+    before: &[Entry],
+    entries: &[Entry],
+) -> Result<(), Fail> {
+    let hall = after(rt, alloc, before)?;
     for entry in entries {
         assert!(rt; !hall.allows(*entry), "{entry:?}");
     }
@@ -210,7 +228,7 @@ fn what_may_not_begin(rt: HostRuntime) -> Result<(), Fail> {
         Entry::Close(0, Why::Ended),
         Entry::End,
     ];
-    none_is_allowed(&rt, &[], &entries)
+    none_is_allowed(&rt, rt.alloc(), &[], &entries)
 }
 
 #[test]
@@ -222,7 +240,7 @@ fn what_may_not_follow_sample_0_that_does_not_settle(rt: HostRuntime) -> Result<
         Entry::Unsettled,
         Entry::Close(0, Why::Ended),
     ];
-    none_is_allowed(&rt, &[Entry::Unsettled], &entries)
+    none_is_allowed(&rt, rt.alloc(), &[Entry::Unsettled], &entries)
 }
 
 #[test]
@@ -236,8 +254,8 @@ fn what_may_not_follow_the_end(rt: HostRuntime) -> Result<(), Fail> {
         Entry::Close(0, Why::Ended),
         Entry::End,
     ];
-    none_is_allowed(&rt, &[Entry::Unsettled, Entry::End], &entries)?;
-    none_is_allowed(&rt, &[FIRST, Entry::End], &entries)
+    none_is_allowed(&rt, rt.alloc(), &[Entry::Unsettled, Entry::End], &entries)?;
+    none_is_allowed(&rt, rt.alloc(), &[FIRST, Entry::End], &entries)
 }
 
 #[test]
@@ -245,6 +263,7 @@ fn a_client_is_open_from_its_open_to_its_close(rt: HostRuntime) -> Result<(), Fa
     let closed = Entry::Close(0, Why::Fault);
     none_is_allowed(
         &rt,
+        rt.alloc(),
         &[FIRST],
         &[Entry::Open(1), Entry::Packet(0, LOOK), closed],
     )?;
@@ -256,11 +275,12 @@ fn a_client_is_open_from_its_open_to_its_close(rt: HostRuntime) -> Result<(), Fa
         Entry::Packet(18446744073709551615, LOOK),
         Entry::End,
     ];
-    none_is_allowed(&rt, &[FIRST, Entry::Open(0)], &others)?;
+    none_is_allowed(&rt, rt.alloc(), &[FIRST, Entry::Open(0)], &others)?;
     let after = [Entry::Open(0), Entry::Packet(0, LOOK), closed];
-    none_is_allowed(&rt, &[FIRST, Entry::Open(0), closed], &after)?;
+    none_is_allowed(&rt, rt.alloc(), &[FIRST, Entry::Open(0), closed], &after)?;
     none_is_allowed(
         &rt,
+        rt.alloc(),
         &[FIRST, Entry::Open(0), Entry::Open(1), closed],
         &[Entry::End],
     )
@@ -273,7 +293,7 @@ fn what_the_goal_does_not_let_be_recorded(rt: HostRuntime) -> Result<(), Fail> {
         Entry::Record(1, true),
         Entry::Unsettled,
     ];
-    none_is_allowed(&rt, &[FIRST], &held)?;
+    none_is_allowed(&rt, rt.alloc(), &[FIRST], &held)?;
     let open = Entry::Open(0);
     let past = [
         Entry::Record(0, false),
@@ -281,17 +301,32 @@ fn what_the_goal_does_not_let_be_recorded(rt: HostRuntime) -> Result<(), Fail> {
         Entry::Record(18446744073709551615, false),
         Entry::Packet(0, Act::Run(10, NONE)),
     ];
-    none_is_allowed(&rt, &[FIRST, open, ASKED], &past)?;
+    none_is_allowed(&rt, rt.alloc(), &[FIRST, open, ASKED], &past)?;
     let pause = Entry::Packet(0, Act::Pause);
-    none_is_allowed(&rt, &[FIRST, open, ASKED, pause], &held)?;
-    none_is_allowed(&rt, &[FIRST, open, ASKED, Entry::Record(3, false)], &held)?;
-    none_is_allowed(&rt, &[FIRST, open, ASKED, Entry::Record(1, true)], &held)?;
-    none_is_allowed(&rt, &[FIRST, open, ASKED, Entry::Unsettled, ASKED], &held)
+    none_is_allowed(&rt, rt.alloc(), &[FIRST, open, ASKED, pause], &held)?;
+    none_is_allowed(
+        &rt,
+        rt.alloc(),
+        &[FIRST, open, ASKED, Entry::Record(3, false)],
+        &held,
+    )?;
+    none_is_allowed(
+        &rt,
+        rt.alloc(),
+        &[FIRST, open, ASKED, Entry::Record(1, true)],
+        &held,
+    )?;
+    none_is_allowed(
+        &rt,
+        rt.alloc(),
+        &[FIRST, open, ASKED, Entry::Unsettled, ASKED],
+        &held,
+    )
 }
 
 #[test]
 fn steps_that_room_was_made_for(rt: HostRuntime) -> Result<(), Fail> {
-    let mut hall = after(&rt, &[FIRST])?;
+    let mut hall = after(&rt, rt.alloc(), &[FIRST])?;
     hall.reserve(100)?;
     for client in 0..100 {
         let entry = Entry::Open(client);
