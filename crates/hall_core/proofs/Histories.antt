@@ -1,9 +1,7 @@
 -- Laws of the histories that a run may have.
-use Rattle.std.proofs.Common.{◌≡◌, ◌≢◌, ℕ, ◌+◌, ◌<◌, ◌≤◌, Bool, true, false, List, [], ◌∷◌, ◌++◌, refl, sym, ap, subst, append-nil, arith, ◌∙◌}
-use Rattle.std.specs.Prelude.{fold}
+use Rattle.std.proofs.Common.{◌≡◌, ◌≢◌, ℕ, true, List, [], ◌∷◌, ◌++◌, refl, sym, ap, subst, append-nil, ◌∙◌}
 use Rattle.hall_core.specs.declared.entry.Entry.{Entry}
-use Rattle.hall_core.specs.declared.entry.Entry.TheVariants as entry
-use Rattle.hall_core.specs.Replay.{State, after, start, replay}
+use Rattle.hall_core.specs.Replay.{replay}
 use Rattle.hall_core.specs.Legal.{RunFacts, allowed, Meets, Next, Follows, Legal}
 use Rattle.hall_core.specs.Laws.{Taken, none, one_more}
 

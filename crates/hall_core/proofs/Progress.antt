@@ -1,5 +1,5 @@
 -- What a history's entries do to the number of samples and to the goal.
-use Rattle.std.proofs.Common.{◌≡◌, ◌≢◌, ℕ, ◌+◌, ◌<◌, ◌≤◌, Bool, true, false, List, [], ◌∷◌, ◌++◌, refl, sym, ap, subst, arith, ◌∙◌, ◌⊎◌, inl, inr, cond}
+use Rattle.std.proofs.Common.{◌≡◌, ◌≢◌, ℕ, ◌+◌, ◌≤◌, Bool, true, false, List, [], ◌∷◌, ◌++◌, refl, sym, subst, arith, ◌⊎◌, inl, inr, cond}
 use Rattle.std.specs.Prelude.{fold, ◌==◌, ◌&&◌, ◌||◌, not, nat_le}
 use Rattle.std.specs.List.{list_any}
 use Rattle.std.proofs.lemmas.Bool.Decides.{nat_tests}
@@ -14,7 +14,7 @@ use Rattle.hall_core.specs.Legal.{RunFacts, allowed, may_begin, may_follow, is_o
 use Rattle.hall_core.specs.Laws.{Taken, none, one_more, is_run, is_recording}
 use Rattle.hall_core.proofs.Histories.{taken_legal}
 
-replay-push : (history : List Entry) (e : Entry) → replay (history ++ e ∷ []) ≡ after (replay history) e
+pub replay-push : (history : List Entry) (e : Entry) → replay (history ++ e ∷ []) ≡ after (replay history) e
 replay-push history e = fold-append after start history (e ∷ [])
 
 n_rises : (s : State) (e : Entry) → s.n ≤ (after s e).n
@@ -75,10 +75,10 @@ zero_before a b p q = omega arith
 IsBegun-after : (s : State) (e : Entry) → IsBegun s → IsBegun (after s e)
 IsBegun-after s e begun zero = unsettled_stays s e (begun (zero_before s.n (after s e).n (n_rises s e) zero))
 
-false-true : false ≡ true → ⊥
+pub false-true : false ≡ true → ⊥
 false-true h = cc
 
-and-first : (a b : Bool) → (a && b) ≡ true → a ≡ true
+pub and-first : (a b : Bool) → (a && b) ≡ true → a ≡ true
 and-first true b h = refl
 and-first false b h = absurd (false-true h)
 
@@ -128,7 +128,7 @@ IsHeld-after s entry.Unsettled no_run held = by_hold
 IsHeld-after s (entry.Close c why) no_run held = held
 IsHeld-after s entry.End no_run held = by_over
 
-or-false : (a b : Bool) → (a || b) ≡ false → (a ≡ false) × (b ≡ false)
+pub or-false : (a b : Bool) → (a || b) ≡ false → (a ≡ false) × (b ≡ false)
 or-false true b h = absurd (false-true (sym h))
 or-false false b h = (refl, h)
 

@@ -1,20 +1,18 @@
 -- A log tells its history.
-use Rattle.std.proofs.Common.{◌≡◌, ◌≢◌, ℕ, ◌+◌, ◌<◌, ◌≤◌, ◌^◌, Bool, true, false, List, [], ◌∷◌, ◌++◌, refl, sym, ap, subst, arith, ◌∙◌, codes, decimal, get_or, eqb}
-use Rattle.std.specs.Prelude.{flat_map}
+use Rattle.std.proofs.Common.{◌≡◌, ℕ, ◌<◌, ◌^◌, Bool, true, false, List, [], ◌∷◌, ◌++◌, refl, sym, ap, subst, arith, ◌∙◌, codes, decimal, get_or, eqb}
 use Rattle.std.specs.Int.{IsInRange}
 use Rattle.std.proofs.lemmas.Bool.Decides.{nat_tests}
 use Rattle.std.proofs.lemmas.List.{append_cancel_left}
 use Rattle.std.proofs.lemmas.List.Concat.{flat_map-cons}
 use Rattle.std.proofs.lemmas.Fmt.{decimal_injective, digits_decimal}
-use Rattle.std.proofs.lemmas.Str.Parse.{IsDigitsTest, IsNumeralModel, numerals_by_value}
-use Rattle.sim_base.specs.declared.kinds.Kinds.{Kinds}
+use Rattle.std.proofs.lemmas.Str.Parse.{numerals_by_value}
 use Rattle.hall_core.specs.declared.entry.Entry.{Entry}
 use Rattle.hall_core.specs.declared.entry.Entry.TheVariants as entry
 use Rattle.hall_core.specs.declared.entry.Act.{Act}
 use Rattle.hall_core.specs.declared.entry.Act.TheVariants as act
 use Rattle.hall_core.specs.declared.entry.Why.{Why}
 use Rattle.hall_core.specs.declared.entry.Why.TheVariants as why
-use Rattle.hall_core.specs.LogText.{word_if, kinds_text, act_text, why_text, entry_text, line, log_text}
+use Rattle.hall_core.specs.LogText.{word_if, kinds_text, act_text, why_text, line, log_text}
 use Rattle.hall_core.specs.Laws.{IsSmall, IsSmallAct, AllSmall}
 
 append_assoc' : (xs ys zs : List ℕ) → (xs ++ ys) ++ zs ≡ xs ++ (ys ++ zs)

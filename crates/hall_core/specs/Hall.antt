@@ -1,5 +1,5 @@
 -- What a contract sees of a history and of a Hall.
-use Rattle.std.specs.Prelude.{ℕ, ◌-◌, List, min, length, vec_len, vec_capacity}
+use Rattle.std.specs.Prelude.{ℕ, ◌-◌, List, min, vec_len, vec_capacity}
 use Rattle.hall_core.specs.declared.entry.Entry.{Entry}
 use Rattle.hall_core.specs.declared.history.History.{History}
 use Rattle.hall_core.specs.declared.standing.Standing.{Standing}

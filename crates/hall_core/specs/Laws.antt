@@ -1,5 +1,6 @@
 -- The words of the laws.
-use Rattle.std.specs.Prelude.{ℕ, ◌<◌, ◌^◌, Bool, true, false, List, [], ◌∷◌, ◌++◌}
+use Rattle.std.specs.Prelude.{◌≡◌, ℕ, ◌<◌, ◌^◌, ◌==◌, Bool, true, false, not, ◌&&◌, ◌⊎◌, List, [], ◌∷◌, ◌++◌}
+use Rattle.std.specs.List.{list_any}
 use Rattle.hall_core.specs.declared.entry.Entry.{Entry}
 use Rattle.hall_core.specs.declared.entry.Entry.TheVariants as entry
 use Rattle.hall_core.specs.declared.entry.Act.{Act}
@@ -48,3 +49,31 @@ IsSmall entry.End = Unit {0}
 unfoldable pub AllSmall : List Entry → Type 0
 AllSmall [] = Unit {0}
 AllSmall (e ∷ es) = IsSmall e × AllSmall es
+
+-- sample 0 settles, and the history begins with its record
+abbrev pub BeginsWithSample : RunFacts → List Entry → Type 0
+BeginsWithSample run history = (0 < run.length) × ((more : List Entry) × (history ≡ entry.Record 1 false ∷ more))
+
+-- sample 0 does not settle, and nothing comes but the end
+abbrev pub IsUnsettledAtOnce : RunFacts → List Entry → Type 0
+IsUnsettledAtOnce run history = (run.length ≡ 0) × ((history ≡ entry.Unsettled ∷ []) ⊎ (history ≡ entry.Unsettled ∷ entry.End ∷ []))
+
+abbrev pub opens : ℕ → Entry → Bool
+opens c (entry.Open d) = c == d
+opens c (entry.Packet d what) = false
+opens c (entry.Record m hit) = false
+opens c entry.Unsettled = false
+opens c (entry.Close d why) = false
+opens c entry.End = false
+
+abbrev pub closes : ℕ → Entry → Bool
+closes c (entry.Open d) = false
+closes c (entry.Packet d what) = false
+closes c (entry.Record m hit) = false
+closes c entry.Unsettled = false
+closes c (entry.Close d why) = c == d
+closes c entry.End = false
+
+-- the client was opened, and not closed
+abbrev pub is_there : List Entry → ℕ → Bool
+is_there history c = list_any (opens c) history && not (list_any (closes c) history)

@@ -1,5 +1,5 @@
 -- Which histories a run may have.
-use Rattle.std.specs.Prelude.{◌≡◌, ◌≢◌, ℕ, ◌+◌, ◌<◌, ◌≤◌, ◌==◌, nat_lt, nat_le, Bool, true, false, not, ◌&&◌, ◌||◌, List, [], ◌∷◌, ◌++◌, Option, Some, None, if◌then◌else◌, slice_get, length}
+use Rattle.std.specs.Prelude.{◌≡◌, ◌≢◌, ℕ, ◌+◌, ◌<◌, ◌≤◌, ◌==◌, nat_le, Bool, true, false, not, ◌&&◌, List, [], ◌∷◌, ◌++◌, Option, Some, None, if◌then◌else◌, slice_get, length}
 use Rattle.std.specs.List.{list_any}
 use Rattle.sim_base.specs.declared.kinds.Kinds.{Kinds}
 use Rattle.hall_core.specs.declared.entry.Entry.{Entry}
@@ -8,7 +8,7 @@ use Rattle.hall_core.specs.declared.entry.Act.{Act}
 use Rattle.hall_core.specs.declared.entry.Act.TheVariants as act
 use Rattle.hall_core.specs.declared.entry.Goal.{Goal}
 use Rattle.hall_core.specs.declared.entry.Goal.TheVariants as goal
-use Rattle.hall_core.specs.Replay.{State, replay, is_goal}
+use Rattle.hall_core.specs.Replay.{State, replay}
 
 -- What the rules ask of a run. A crate above says what these are of a circuit under its samples.
 pub record RunFacts : Type 0 where

@@ -1,6 +1,5 @@
 -- What a history says: how many samples are recorded, how far they are to be recorded, and which clients are open.
 use Rattle.std.specs.Prelude.{ℕ, ◌+◌, ◌==◌, nat_lt, Bool, true, false, not, ◌&&◌, ◌||◌, List, [], ◌∷◌, ◌++◌, Option, Some, None, if◌then◌else◌, fold, take, slice_get, slice_set}
-use Rattle.sim_base.specs.declared.kinds.Kinds.{Kinds}
 use Rattle.hall_core.specs.declared.entry.Entry.{Entry}
 use Rattle.hall_core.specs.declared.entry.Entry.TheVariants as entry
 use Rattle.hall_core.specs.declared.entry.Act.TheVariants as act

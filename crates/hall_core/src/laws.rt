@@ -1,12 +1,12 @@
 //! Laws of histories. A function here does nothing: its contract is the law.
-ghost use Rattle.std.specs.Prelude.{◌≡◌, ◌≢◌, ◌≤◌, List, [], ◌++◌, true, false};
+ghost use Rattle.std.specs.Prelude.{◌≡◌, ◌≢◌, ◌≤◌, ◌⊎◌, ℕ, List, [], ◌∷◌, ◌++◌, length, true, false};
 ghost use Rattle.std.specs.List.{list_any};
 ghost use Rattle.hall_core.specs.declared.entry.Entry.{Entry};
 ghost use Rattle.hall_core.specs.declared.entry.Goal.TheVariants.{Hold as Held};
-ghost use Rattle.hall_core.specs.Laws.{AllSmall, Taken, is_recording, is_run};
-ghost use Rattle.hall_core.specs.Legal.{Legal, RunFacts, allowed};
+ghost use Rattle.hall_core.specs.Laws.{AllSmall, BeginsWithSample, IsUnsettledAtOnce, Taken, is_recording, is_run, is_there};
+ghost use Rattle.hall_core.specs.Legal.{Legal, RunFacts, allowed, is_open};
 ghost use Rattle.hall_core.specs.LogText.{log_text};
-ghost use Rattle.hall_core.specs.Replay.{replay};
+ghost use Rattle.hall_core.specs.Replay.{reached, replay};
 
 /// Every beginning of a legal history is legal, but for the empty one.
 #[tactic(auto, using(crate::proofs::Histories::legal_beginning))]
@@ -42,4 +42,23 @@ pub fn law_of_hold()
 pub fn law_of_logs()
     ensures { (first second : List Entry) → AllSmall first → AllSmall second → log_text first ≡ log_text second
         → first ≡ second }
+{}
+
+/// A legal history begins with the record of sample 0, or is Unsettled, or Unsettled and End.
+pub fn law_of_first_entries()
+    ensures { (run : RunFacts) → (history : List Entry) → Legal run history
+        → BeginsWithSample run history ⊎ IsUnsettledAtOnce run history }
+{}
+
+/// Where an entry reaches a goal, or is Unsettled, the goal is held.
+#[tactic(auto, using(crate::proofs::Beginnings::reached_held))]
+pub fn law_of_goals()
+    ensures { (before : List Entry) → (e : Entry) → reached (before ++ e ∷ []) (length before) ≡ true
+        → (replay (before ++ e ∷ [])).goal ≡ Held }
+{}
+
+/// A client is open exactly where it was opened and not closed.
+pub fn law_of_clients()
+    ensures { (run : RunFacts) → (history : List Entry) → (c : ℕ) → Legal run history
+        → is_open (replay history) c ≡ is_there history c }
 {}

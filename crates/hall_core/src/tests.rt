@@ -1,6 +1,6 @@
 use crate::{
-    Act, Entry, Goal, Hall, History, Why, law_of_beginnings, law_of_hold, law_of_logs,
-    law_of_progress, law_of_steps, log_text,
+    Act, Entry, Goal, Hall, History, Why, law_of_beginnings, law_of_clients, law_of_first_entries,
+    law_of_goals, law_of_hold, law_of_logs, law_of_progress, law_of_steps, log_text,
 };
 use sim_base::Kinds;
 use std::alloc::Global;
@@ -335,9 +335,12 @@ fn steps_that_room_was_made_for(rt: HostRuntime) -> Result<(), Fail> {
     }
     assert_eq!(rt; hall.history().as_slice().len(), 101);
     law_of_beginnings();
-    law_of_steps();
-    law_of_progress();
+    law_of_clients();
+    law_of_first_entries();
+    law_of_goals();
     law_of_hold();
     law_of_logs();
+    law_of_progress();
+    law_of_steps();
     Ok(())
 }

@@ -1,4 +1,4 @@
-use Rattle.std.proofs.Common.{rules, ◌≡◌, ◌++◌, [], ◌∷◌, arith}
+use Rattle.std.proofs.Common.{rules, ◌≡◌, ◌++◌, [], ◌∷◌}
 use Rattle.hall_core.proofs.Histories.{legal_step}
 use Rattle.hall_core.proofs.hall.Hall.step.Goals as goal
 
