@@ -126,6 +126,7 @@ pub fn law_of_beginnings()
 #[cfg(test)]
 mod tests {
     use super::{Frame, Framer, MAX_PACKET, law_of_beginnings};
+    use sim_base::NoMemory;
     use std::test::Fail;
 
     const GREETING: &[u8] = b"{\"type\":\"greeting\",\"version\":0}\0";
@@ -187,6 +188,37 @@ mod tests {
             long.feed(b"\0y\0")?;
             assert_eq!(rt; long.take(), Frame::TooLong);
         }
+        Ok(())
+    }
+
+    fn feed_until_it_is_taken(framer: &mut Framer, piece: &[u8]) -> Result<(), NoMemory> {
+        match framer.feed(piece) {
+            Ok(()) => Ok(()),
+            Err(_) => framer.feed(piece),
+        }
+    }
+
+    // Where one allocation is refused, the same piece is fed again.
+    #[test]
+    fn a_refused_piece_leaves_all_as_it_was(rt: HostRuntime) -> Result<(), Fail> {
+        let mut framer = match Framer::new(rt.alloc()) {
+            Ok(framer) => framer,
+            Err(_) => Framer::new(rt.alloc())?,
+        };
+        let mut piece = [b'a'; 3000];
+        for place in 0..40u8 {
+            piece[..2].copy_from_slice(&[0, place + 1]);
+            feed_until_it_is_taken(&mut framer, &piece)?;
+        }
+        assert_eq!(rt; framer.take(), Frame::Whole(b""));
+        for place in 0..39u8 {
+            piece[1] = place + 1;
+            assert_eq!(rt; framer.take(), Frame::Whole(&piece[1..]));
+        }
+        feed_until_it_is_taken(&mut framer, b"bcd\0")?;
+        let last = framer.take();
+        assert!(rt; matches!(last, Frame::Whole(last) if last.len() == 3002 && last[0] == 40 && last.ends_with(b"abcd")));
+        assert_eq!(rt; framer.take(), Frame::NotYet);
         Ok(())
     }
 

@@ -322,3 +322,53 @@ fn lists_nest_up_to_127_deep(rt: HostRuntime) -> Result<(), Fail> {
     assert_eq!(rt; answer(rt.alloc(), &spaces)?.as_str(), "Json");
     Ok(())
 }
+
+fn asked(alloc: Global, packet: &[u8]) -> Result<Request, PacketFault> {
+    match read_packet(alloc, packet) {
+        Err(PacketFault::NoMemory) => read_packet(alloc, packet),
+        answered => answered,
+    }
+}
+
+fn told(alloc: Global, asked: &Result<Request, PacketFault>) -> Result<String, AllocError> {
+    match asked {
+        Ok(request) => shown(alloc, request),
+        Err(fault) => format!(in alloc; "{fault:?}"),
+    }
+}
+
+// Where one allocation is refused, no other answer comes in its place, and asking again gives the answer.
+#[test]
+fn a_refused_allocation_is_told_as_no_memory(rt: HostRuntime) -> Result<(), Fail> {
+    let cases: [(&[u8], &str); 8] = [
+        (br#"{"type":"greeting","version":3}"#, "greeting 3"),
+        (
+            br#"{"type":"command","command":"list_items","scope":"top a"}"#,
+            "items top a",
+        ),
+        (
+            br#"{"type":"command","command":"reference_items","reference":"r","items":[["q"],["m",3,0],["p"],["s"],["t"]]}"#,
+            "reference r: q m[3..0] p s t",
+        ),
+        (
+            br#"{"type":"command","command":"query_interval","interval":["0.0","1.0"],"items":"r","item_values_encoding":"e"}"#,
+            "query 0 to 1000000000000000 of r in e, false, false",
+        ),
+        (
+            br#"{"type":"command","command":"reference_items","reference":"r","items":[["q"],["m",3]]}"#,
+            "Argument",
+        ),
+        (br#"{"type":"command","command":"\u0041"}"#, "Command"),
+        (br#"[["a",{"b":"\u0041"}],1,2,3,4]"#, "Packet"),
+        (br#"{"a":["b","c"],"d":"#, "Json"),
+    ];
+    for (packet, want) in cases {
+        let request = asked(rt.alloc(), packet);
+        let got = match told(rt.alloc(), &request) {
+            Ok(text) => text,
+            Err(_) => told(rt.alloc(), &request)?,
+        };
+        assert_eq!(rt; got.as_str(), want);
+    }
+    Ok(())
+}

@@ -1,0 +1,5 @@
+pub mod Histories
+pub mod Progress
+pub mod Texts
+pub mod Beginnings
+pub mod Clients

@@ -1,0 +1,5 @@
+pub mod Replay
+pub mod Legal
+pub mod Laws
+pub mod LogText
+pub mod Hall

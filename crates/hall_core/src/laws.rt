@@ -1,0 +1,64 @@
+//! Laws of histories. A function here does nothing: its contract is the law.
+ghost use Rattle.std.specs.Prelude.{◌≡◌, ◌≢◌, ◌≤◌, ◌⊎◌, ℕ, List, [], ◌∷◌, ◌++◌, length, true, false};
+ghost use Rattle.std.specs.List.{list_any};
+ghost use Rattle.hall_core.specs.declared.entry.Entry.{Entry};
+ghost use Rattle.hall_core.specs.declared.entry.Goal.TheVariants.{Hold as Held};
+ghost use Rattle.hall_core.specs.Laws.{AllSmall, BeginsWithSample, IsUnsettledAtOnce, Taken, is_recording, is_run, is_there};
+ghost use Rattle.hall_core.specs.Legal.{Legal, RunFacts, allowed, is_open};
+ghost use Rattle.hall_core.specs.LogText.{log_text};
+ghost use Rattle.hall_core.specs.Replay.{reached, replay};
+
+/// Every beginning of a legal history is legal, but for the empty one.
+#[tactic(auto, using(crate::proofs::Histories::legal_beginning))]
+pub fn law_of_beginnings()
+    ensures { (run : RunFacts) → (begun more : List Entry)
+        → begun ≢ [] → Legal run (begun ++ more) → Legal run begun }
+{}
+
+/// Steps from the empty history lead to the legal histories and to no other, each step adding an entry that may come
+/// next.
+#[tactic(auto, using(crate::proofs::Histories::legal_taken, crate::proofs::Histories::taken_legal))]
+pub fn law_of_steps()
+    ensures legal { (run : RunFacts) → (history : List Entry) → Taken run history → history ≢ [] → Legal run history }
+    ensures taken { (run : RunFacts) → (history : List Entry) → Legal run history → Taken run history }
+{}
+
+/// The number of samples never falls, and in a legal history never passes the samples that settle.
+pub fn law_of_progress()
+    ensures never_falls { (before more : List Entry) → (replay before).n ≤ (replay (before ++ more)).n }
+    ensures never_passes { (run : RunFacts) → (history : List Entry) → Legal run history → (replay history).n ≤ run.length }
+{}
+
+/// Whatever comes after the goal is held, nothing is recorded until a run is asked for.
+#[tactic(auto, using(crate::proofs::Progress::holds))]
+pub fn law_of_hold()
+    ensures { (run : RunFacts) → (before more : List Entry) → (e : Entry)
+        → Legal run before → (replay before).goal ≡ Held → list_any is_run more ≡ false → is_recording e ≡ true
+        → allowed run.count (replay (before ++ more)) e ≡ false }
+{}
+
+/// Two histories with the same log are one history.
+#[tactic(auto, using(crate::proofs::Texts::same_history))]
+pub fn law_of_logs()
+    ensures { (first second : List Entry) → AllSmall first → AllSmall second → log_text first ≡ log_text second
+        → first ≡ second }
+{}
+
+/// A legal history begins with the record of sample 0, or is Unsettled, or Unsettled and End.
+pub fn law_of_first_entries()
+    ensures { (run : RunFacts) → (history : List Entry) → Legal run history
+        → BeginsWithSample run history ⊎ IsUnsettledAtOnce run history }
+{}
+
+/// Where an entry reaches a goal, or is Unsettled, the goal is held.
+#[tactic(auto, using(crate::proofs::Beginnings::reached_held))]
+pub fn law_of_goals()
+    ensures { (before : List Entry) → (e : Entry) → reached (before ++ e ∷ []) (length before) ≡ true
+        → (replay (before ++ e ∷ [])).goal ≡ Held }
+{}
+
+/// A client is open exactly where it was opened and not closed.
+pub fn law_of_clients()
+    ensures { (run : RunFacts) → (history : List Entry) → (c : ℕ) → Legal run history
+        → is_open (replay history) c ≡ is_there history c }
+{}
