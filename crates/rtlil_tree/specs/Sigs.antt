@@ -1,0 +1,2 @@
+-- Signals.
+use Rattle.std.specs.Prelude.{ℕ, zero, suc, List, [], ◌∷◌, ◌++◌, length}
