@@ -1,5 +1,5 @@
 -- What a rule of the grammar reads from, and the steps that every rule is made of.
-use Rattle.std.specs.Prelude.{◌≡◌, ◌≢◌, ℕ, ℤ, pos, negsuc, List, [], ◌∷◌, Bool, true, false, Option, Some, None, Result, Ok, Err, bytes_eq, if◌then◌else◌}
+use Rattle.std.specs.Prelude.{◌≡◌, ◌≢◌, ℕ, zero, suc, length, ℤ, pos, List, [], ◌∷◌, Bool, true, false, Option, Some, None, Result, Ok, Err, bytes_eq, if◌then◌else◌}
 use Rattle.rtlil_lexer.specs.declared.token.Token.{Token}
 use Rattle.rtlil_lexer.specs.declared.token.TokenKind.{TokenKind}
 use Rattle.rtlil_lexer.specs.declared.token.TokenKind.TheVariants as token
@@ -111,6 +111,35 @@ on_word text found other = λ i. if sees_word text i then found (next i) else ot
 unfoldable pub expect : Sign → Rule (Unit {0})
 expect s = on s (pure tt) refuse
 
+unfoldable pub expect_word : List ℕ → Rule (Unit {0})
+expect_word text = on_word text (pure tt) refuse
+
+infixr 11 ◌<$>◌
+abbrev pub ◌<$>◌ : {A B : Type 0} → (A → B) → Rule A → Rule B
+f <$> p = p >>= (λ x. pure (f x))
+
+-- Step by step, as long as a step says so. The number bounds the steps, each of which takes a token, so that the count
+-- of tokens is enough; behind so many steps no token is left.
+unfoldable pub repeated : {S : Type 0} → (S → Rule (S × Bool)) → (S → Rule S) → ℕ → S → Rule S
+repeated step ended zero state = ended state
+repeated step ended (suc turns) state = step state >>= λ p. if p.1 then repeated step ended turns p.0 else pure p.0
+
+-- a step after which more may come
+abbrev pub more : {S : Type 0} → S → Rule (S × Bool)
+more state = pure (state, true)
+
+-- the last step
+abbrev pub stop : {S : Type 0} → S → Rule (S × Bool)
+stop state = pure (state, false)
+
+-- as many as there are, up to a token that is none of them
+abbrev pub many : {S : Type 0} → (S → Rule (S × Bool)) → S → Rule S
+many step state = λ i. repeated step pure (length i.rest) state i
+
+-- up to an end, which has to come
+abbrev pub up_to_end : {S : Type 0} → (S → Rule (S × Bool)) → S → Rule S
+up_to_end step state = λ i. repeated step (λ _. refuse) (length i.rest) state i
+
 -- ---- tokens that carry a value
 
 abbrev pub identifier_by : Option TokenKind → Rule (List ℕ)
@@ -140,3 +169,8 @@ natural = λ i. natural_by (kind i) i
 abbrev pub Reads : {A : Type 0} → Outcome A → Result A TextFault → Input → Type 0
 Reads outcome (Ok a) new = outcome ≡ Ok (a, new)
 Reads outcome (Err e) new = e ≢ OutOfMemory → outcome ≡ Err e
+
+-- the same for a step, which changes the state in place and tells whether more may come
+abbrev pub Steps : {S : Type 0} → Outcome (S × Bool) → Result Bool TextFault → S → Input → Type 0
+Steps outcome (Ok goes_on) state new = outcome ≡ Ok ((state, goes_on), new)
+Steps outcome (Err e) state new = e ≢ OutOfMemory → outcome ≡ Err e

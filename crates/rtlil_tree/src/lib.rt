@@ -3,8 +3,17 @@
 #![tactic(auto)]
 
 mod cursor;
+mod module;
 mod place;
+mod process;
 mod sig;
+mod signal;
+mod statement;
 
+pub use module::{
+    Assignment, Attribute, Cell, Connection, File, Memory, MemoryOptions, Module, Parameter,
+    ParameterKind, Setting, Statement, Wire, WireOptions,
+};
 pub use place::Place;
+pub use process::{Action, Case, Process, Switch, Sync, Trigger};
 pub use sig::{Const, Sig, SigPart, Slice};
