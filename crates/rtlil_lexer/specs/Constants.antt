@@ -1,5 +1,7 @@
 -- What a constant stands for.
 use Rattle.std.specs.Prelude.{ℕ, ◌+◌, ◌-◌, ◌^◌, ◌==◌, List, [], ◌∷◌, ◌++◌, length, Bool, ◌||◌, replicate, if◌then◌else◌}
+use Rattle.rtlil_lexer.specs.declared.constant.Sought.{Sought}
+use Rattle.rtlil_lexer.specs.declared.constant.Sought.TheVariants.{One, Known, Any}
 
 -- the most bits that a constant has
 abbrev pub widest : ℕ
@@ -35,3 +37,9 @@ constant_value width digits = record {
   known = number_where (λ d. d == 48 || d == 49) (filled width digits);
   any = number_where (λ d. d == 45) (filled width digits);
 }
+
+-- the digits that make a bit of the value, of the known bits or of the any bits 1
+abbrev pub passes : Sought → ℕ → Bool
+passes One d = d == 49
+passes Known d = d == 48 || d == 49
+passes Any d = d == 45

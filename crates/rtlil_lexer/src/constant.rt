@@ -1,9 +1,9 @@
 //! Constants: values of bits, written in digits.
-ghost use Rattle.std.specs.Prelude.{◌≡◌, ◌≤◌, ◌<◌, ◌^◌, ℕ, List, length, IfOk, nat_le, true};
+ghost use Rattle.std.specs.Prelude.{◌≡◌, ◌≤◌, ◌<◌, ◌+◌, ◌^◌, length, IfOk, true};
 ghost use Rattle.std.specs.List.{list_all};
 ghost use Rattle.sim_base.specs.BitValue.{bit_value};
 ghost use Rattle.rtlil_lexer.specs.Characters.{is_constant_digit};
-ghost use Rattle.rtlil_lexer.specs.Constants.{ConstantValue, constant_value, widest};
+ghost use Rattle.rtlil_lexer.specs.Constants.{ConstantValue, constant_value, widest, filler, filled, number_where, passes};
 
 use sim_base::{Bits, NoMemory};
 use std::alloc::Global;
@@ -53,5 +53,102 @@ impl<'a> Constant<'a> {
         ensures { result ≡ self.now.width }
     {
         self.width
+    }
+
+    /// The bits that are 1 where the digit is 1.
+    pub fn value(&self, alloc: Global) -> Result<Bits, NoMemory>
+        ensures { IfOk result (λ bits. bits ≡ bit_value self.now.width self.now.value) }
+    {
+        bits_where(alloc, self.width, self.digits, Sought::One)
+    }
+
+    /// The bits that are 1 where the digit is 0 or 1.
+    pub fn known(&self, alloc: Global) -> Result<Bits, NoMemory>
+        ensures { IfOk result (λ bits. bits ≡ bit_value self.now.width self.now.known) }
+    {
+        bits_where(alloc, self.width, self.digits, Sought::Known)
+    }
+
+    /// The bits that are 1 where the digit is `-`.
+    pub fn any(&self, alloc: Global) -> Result<Bits, NoMemory>
+        ensures { IfOk result (λ bits. bits ≡ bit_value self.now.width self.now.any) }
+    {
+        bits_where(alloc, self.width, self.digits, Sought::Any)
+    }
+}
+
+/// The digits that are sought.
+#[derive(Clone, Copy)]
+enum Sought {
+    /// `1`
+    One,
+    /// `0` and `1`
+    Known,
+    /// `-`
+    Any,
+}
+
+fn passes(sought: Sought, digit: u8) -> bool
+    ensures { result ≡ passes sought digit }
+{
+    match sought {
+        Sought::One => digit == b'1',
+        Sought::Known => digit == b'0' || digit == b'1',
+        Sought::Any => digit == b'-',
+    }
+}
+
+/// The digit that stands for each one that was not written.
+fn filler(digits: &[u8]) -> u8
+    ensures { result ≡ filler digits.now }
+{
+    if digits.is_empty() {
+        return b'x';
+    }
+    if digits[0] == b'1' { b'0' } else { digits[0] }
+}
+
+/// The bits of this width that are 1 where the digits are sought, the ones that were not written as they
+/// are filled.
+fn bits_where(alloc: Global, width: u32, digits: &[u8], sought: Sought) -> Result<Bits, NoMemory>
+    requires { length digits.now ≤ width }
+    ensures { IfOk result (λ bits. bits ≡ bit_value width (number_where (passes sought) (filled width digits.now))) }
+{
+    let mut bits = Bits::zero(alloc, width)?;
+    set_written(&mut bits, digits, sought);
+    if passes(sought, filler(digits)) {
+        set_from(&mut bits, digits.len() as u32);
+    }
+    Ok(bits)
+}
+
+/// Sets the lowest bits where these digits are sought, the last digit being that of the least bit.
+fn set_written(bits: &mut Bits, digits: &[u8], sought: Sought)
+    requires room { length digits.now ≤ bits.old.width }
+    requires zero { bits.old.number ≡ 0 }
+    ensures width { bits.new.width ≡ bits.old.width }
+    ensures number { bits.new.number ≡ number_where (passes sought) digits.now }
+{
+    let _ = bits.width();
+    for at in 0..digits.len() {
+        if passes(sought, digits[digits.len() - 1 - at]) {
+            bits.set(at as u32, true);
+        }
+    }
+}
+
+/// Sets all bits from one on.
+fn set_from(bits: &mut Bits, from: u32)
+    requires inside { from ≤ bits.old.width }
+    requires below { bits.old.number < 2 ^ from }
+    ensures width { bits.new.width ≡ bits.old.width }
+    ensures number { bits.new.number + 2 ^ from ≡ 2 ^ bits.old.width + bits.old.number }
+{
+    let width = bits.width();
+    let mut at = from;
+    while at < width {
+        let part = (width - at).min(64);
+        bits.put_field(at, part, u64::MAX);
+        at += part;
     }
 }

@@ -8,6 +8,7 @@ mod piece;
 mod place;
 mod quoted;
 mod spelling;
+mod strings;
 mod token;
 
 ghost use Rattle.std.specs.Prelude.{◌≡◌};
