@@ -1,5 +1,5 @@
 -- What a rule of the grammar reads from, and the steps that every rule is made of.
-use Rattle.std.specs.Prelude.{◌≡◌, ◌≢◌, ℕ, zero, suc, length, ℤ, pos, List, [], ◌∷◌, Bool, true, false, Option, Some, None, Result, Ok, Err, bytes_eq, if◌then◌else◌}
+use Rattle.std.specs.Prelude.{◌≡◌, ◌≢◌, ℕ, zero, suc, ◌-◌, length, slice_get, ℤ, pos, List, [], ◌∷◌, Bool, true, false, Option, Some, None, Result, Ok, Err, bytes_eq, if◌then◌else◌}
 use Rattle.rtlil_lexer.specs.declared.token.Token.{Token}
 use Rattle.rtlil_lexer.specs.declared.token.TokenKind.{TokenKind}
 use Rattle.rtlil_lexer.specs.declared.token.TokenKind.TheVariants as token
@@ -15,6 +15,14 @@ use Rattle.rtlil_tree.specs.declared.cursor.Sign.TheVariants as sign
 pub record Input : Type 0 where
   pub rest : List Token
   pub end : Place
+
+-- the place of a file's last token; a file without tokens has no fault, and any place does
+abbrev pub place_of : Option Token → Place
+place_of None = record { line = 1; column = 1 }
+place_of (Some t) = record { line = t.line; column = t.column }
+
+abbrev pub start : List Token → Input
+start tokens = record { rest = tokens; end = place_of (slice_get tokens (length tokens - 1)) }
 
 -- ---- the next token
 

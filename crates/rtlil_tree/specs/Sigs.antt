@@ -45,9 +45,9 @@ part_with braces = λ i.
     if sees sign.LeftBrace i then (braces >>= λ parts. pure (part.Concatenation parts)) i else
     (named_or_constant (kind i)) i
   where
-  named_or_constant : Option TokenKind → Rule SigPart
-  named_or_constant (Some (token.Identifier spelling)) = λ i. Ok (part.Wire spelling, next i)
-  named_or_constant _ = constant >>= λ c. pure (part.Const c)
+    named_or_constant : Option TokenKind → Rule SigPart
+    named_or_constant (Some (token.Identifier spelling)) = λ i. Ok (part.Wire spelling, next i)
+    named_or_constant _ = constant >>= λ c. pure (part.Const c)
 
 unfoldable pub sig_with : Rule (List Sig) → Rule Sig
 sig_with braces = do

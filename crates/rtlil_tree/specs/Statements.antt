@@ -137,10 +137,13 @@ cell_line cell =
 abbrev pub opened : List ℕ → List ℕ → List Attribute → Cell
 opened kind name attributes = record { kind = kind; name = name; attributes = attributes; settings = []; connections = [] }
 
+unfoldable pub cell_lines : Cell → Rule Cell
+cell_lines cell = up_to_end cell_line cell
+
 -- id id eol { cline } "end" eol, from behind `cell` on, with the attributes before it
 unfoldable pub cell : List Attribute → Rule Cell
 cell attributes = do
   kind ← identifier
   name ← identifier
   expect sign.EndOfLine
-  up_to_end cell_line (opened kind name attributes)
+  cell_lines (opened kind name attributes)

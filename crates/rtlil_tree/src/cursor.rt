@@ -1,7 +1,7 @@
 //! The tokens that are left.
 ghost use Rattle.std.specs.Prelude.{◌≡◌, length, if◌then◌else◌, option_copied};
 ghost use Rattle.rtlil_tree.specs.Input as input;
-ghost use Rattle.rtlil_tree.specs.Input.{Reads};
+ghost use Rattle.rtlil_tree.specs.Input.{Reads, start};
 ghost use Rattle.rtlil_lexer.specs.declared.fault.TextFaultKind.TheVariants.{Syntax};
 
 use crate::place::Place;
@@ -53,6 +53,19 @@ fn is_sign(sign: Sign, kind: &TokenKind<'_>) -> bool
 }
 
 impl<'a> Cursor<'a> {
+    pub(crate) fn new(tokens: &'a [Token<'a>]) -> Cursor<'a>
+        ensures { result ≡ start tokens.now }
+    {
+        let end = match tokens.last() {
+            None => Place { line: 1, column: 1 },
+            Some(last) => Place {
+                line: last.line,
+                column: last.column,
+            },
+        };
+        Cursor { rest: tokens, end }
+    }
+
     /// How many tokens there are.
     pub(crate) fn left(&self) -> usize
         ensures { result ≡ length self.now.rest }
@@ -165,6 +178,17 @@ impl<'a> Cursor<'a> {
         ensures { Reads (input.expect sign self.old) result self.new }
     {
         if self.eat(sign) {
+            Ok(())
+        } else {
+            Err(self.refuse())
+        }
+    }
+
+    #[tactic(auto, unfolding(crate::specs::Input::expect_word))]
+    pub(crate) fn expect_word(&mut self, text: &[u8]) -> Result<(), TextFault>
+        ensures { Reads (input.expect_word text.now self.old) result self.new }
+    {
+        if self.eat_word(text) {
             Ok(())
         } else {
             Err(self.refuse())

@@ -2,7 +2,10 @@
 //! connections and processes, each in its order.
 #![tactic(auto)]
 
+mod action;
 mod cursor;
+mod draft;
+mod file;
 mod module;
 mod place;
 mod process;
@@ -10,6 +13,7 @@ mod sig;
 mod signal;
 mod statement;
 
+pub use file::parse;
 pub use module::{
     Assignment, Attribute, Cell, Connection, File, Memory, MemoryOptions, Module, Parameter,
     ParameterKind, Setting, Statement, Wire, WireOptions,

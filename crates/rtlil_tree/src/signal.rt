@@ -20,7 +20,18 @@ pub(crate) fn constant(alloc: Global, cursor: &mut Cursor<'_>) -> Result<Const, 
             cursor.step();
             Ok(Const::Integer(*n))
         }
-        Some(TokenKind::Constant(_) | TokenKind::String(_)) => Err(TextFault::NoMemory),
+        Some(TokenKind::Constant(constant)) => {
+            let value = constant.value(alloc)?;
+            let known = constant.known(alloc)?;
+            let any = constant.any(alloc)?;
+            cursor.step();
+            Ok(Const::Digits { value, known, any })
+        }
+        Some(TokenKind::String(quoted)) => {
+            let text = quoted.to_name(alloc)?;
+            cursor.step();
+            Ok(Const::String(text))
+        }
         _ => Err(cursor.refuse()),
     }
 }
