@@ -4,3 +4,4 @@ pub mod Constants
 pub mod Strings
 pub mod Pieces
 pub mod Tokens
+pub mod Cursors

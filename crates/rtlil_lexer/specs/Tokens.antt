@@ -1,12 +1,12 @@
 -- The tokens of a text, each with its place.
-use Rattle.std.specs.Prelude.{ℕ, zero, suc, ◌+◌, ◌-◌, ◌==◌, not, ◌&&◌, List, [], ◌∷◌, ◌++◌, take, nat_lt, Option, Some, None, Result, Ok, Err, if◌then◌else◌}
+use Rattle.std.specs.Prelude.{◌≡◌, ℕ, zero, suc, ◌+◌, ◌-◌, ◌==◌, not, ◌&&◌, List, [], ◌∷◌, ◌++◌, take, nat_lt, Option, Some, None, Result, Ok, Err, if◌then◌else◌}
 use Rattle.std.specs.List.{position_or_len}
 use Rattle.std.specs.Str.Lossy.{utf8_valid_len}
 use Rattle.rtlil_lexer.specs.declared.token.Token.{Token}
 use Rattle.rtlil_lexer.specs.declared.token.TokenKind.{TokenKind}
 use Rattle.rtlil_lexer.specs.declared.token.TokenKind.TheVariants as token
 use Rattle.rtlil_lexer.specs.declared.fault.TextFault.{TextFault}
-use Rattle.rtlil_lexer.specs.declared.fault.TextFault.TheVariants.{At}
+use Rattle.rtlil_lexer.specs.declared.fault.TextFault.TheVariants.{At, NoMemory}
 use Rattle.rtlil_lexer.specs.declared.fault.TextFaultKind.{TextFaultKind}
 use Rattle.rtlil_lexer.specs.declared.fault.TextFaultKind.TheVariants as fault
 use Rattle.rtlil_lexer.specs.declared.place.Place.{Place}
@@ -74,3 +74,8 @@ tokens_from zero place sound (b ∷ rest) = with_first place sound (λ read behi
 -- the tokens of a text, or its first fault
 abbrev pub lexed : List ℕ → Lexed
 lexed text = tokens_from 0 start (sound_length text) text
+
+-- a fault that is answered is what was read; want of memory says nothing of it
+abbrev pub Fails : {X : Type 0} → TextFault → Result X TextFault → Type 0
+Fails NoMemory read = Unit {0}
+Fails (At kind line column) read = read ≡ Err (At kind line column)

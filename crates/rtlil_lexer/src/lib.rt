@@ -2,11 +2,15 @@
 //! strings, signs and the ends of lines, each with its place.
 #![tactic(auto)]
 
+mod classes;
 mod constant;
 mod fault;
+mod lexer;
+mod number;
 mod piece;
 mod place;
 mod quoted;
+mod sound;
 mod spelling;
 mod strings;
 mod token;
@@ -16,6 +20,7 @@ ghost use Rattle.rtlil_lexer.specs.Tokens.{lexed};
 
 pub use constant::{Constant, WIDEST};
 pub use fault::{TextFault, TextFaultKind};
+pub use lexer::lex;
 pub use quoted::Quoted;
 pub use spelling::Spelling;
 pub use token::{Token, TokenKind};
