@@ -20,7 +20,7 @@ const DEEPEST: u32 = 256;
 #[tactic(auto, unfolding(crate::specs::Processes::further))]
 fn further(
     alloc: Global,
-    cursor: &mut Cursor<'_>,
+    cursor: &mut Cursor<'_, '_>,
     found: &mut Items<Sig>,
 ) -> Result<bool, TextFault>
     ensures { Steps (spec.further found.old cursor.old) result found.new cursor.new }
@@ -36,7 +36,7 @@ fn further(
 #[tactic(auto, unfolding(crate::specs::Processes::sigs_from))]
 fn sigs_from(
     alloc: Global,
-    cursor: &mut Cursor<'_>,
+    cursor: &mut Cursor<'_, '_>,
     mut found: Items<Sig>,
 ) -> Result<Items<Sig>, TextFault>
     ensures { Reads (spec.sigs_from found cursor.old) result cursor.new }
@@ -51,7 +51,7 @@ fn sigs_from(
 
 /// Reads what a case fits, from behind its word on.
 #[tactic(auto, unfolding(crate::specs::Processes::compare))]
-fn compare(alloc: Global, cursor: &mut Cursor<'_>) -> Result<Items<Sig>, TextFault>
+fn compare(alloc: Global, cursor: &mut Cursor<'_, '_>) -> Result<Items<Sig>, TextFault>
     ensures { Reads (spec.compare cursor.old) result cursor.new }
 {
     let mut first = Items::new(alloc);
@@ -69,7 +69,7 @@ fn compare(alloc: Global, cursor: &mut Cursor<'_>) -> Result<Items<Sig>, TextFau
 #[tactic(auto, unfolding(crate::specs::Processes::body_part))]
 fn body_part(
     alloc: Global,
-    cursor: &mut Cursor<'_>,
+    cursor: &mut Cursor<'_, '_>,
     depth: u32,
     found: &mut Items<Action>,
 ) -> Result<bool, TextFault>
@@ -94,7 +94,7 @@ fn body_part(
 /// Reads the parts of a body, as many as there are.
 #[cycle(action)]
 #[tactic(auto, unfolding(crate::specs::Processes::body))]
-fn body(alloc: Global, cursor: &mut Cursor<'_>, depth: u32) -> Result<Items<Action>, TextFault>
+fn body(alloc: Global, cursor: &mut Cursor<'_, '_>, depth: u32) -> Result<Items<Action>, TextFault>
     ensures { Reads (spec.body (spec.switch_within depth) cursor.old) result cursor.new }
 {
     let mut found = Items::new(alloc);
@@ -109,7 +109,7 @@ fn body(alloc: Global, cursor: &mut Cursor<'_>, depth: u32) -> Result<Items<Acti
 /// Reads a case, from behind its word on.
 #[cycle(action)]
 #[tactic(auto, unfolding(crate::specs::Processes::case))]
-fn case(alloc: Global, cursor: &mut Cursor<'_>, depth: u32) -> Result<Case, TextFault>
+fn case(alloc: Global, cursor: &mut Cursor<'_, '_>, depth: u32) -> Result<Case, TextFault>
     ensures { Reads (spec.case (spec.switch_within depth) cursor.old) result cursor.new }
 {
     let compare = compare(alloc, cursor)?;
@@ -122,7 +122,7 @@ fn case(alloc: Global, cursor: &mut Cursor<'_>, depth: u32) -> Result<Case, Text
 #[tactic(auto, unfolding(crate::specs::Processes::switch_part))]
 fn switch_part(
     alloc: Global,
-    cursor: &mut Cursor<'_>,
+    cursor: &mut Cursor<'_, '_>,
     depth: u32,
     found: &mut Items<Case>,
 ) -> Result<bool, TextFault>
@@ -147,7 +147,7 @@ fn switch_part(
 /// Reads the cases of a switch, up to its end.
 #[cycle(action)]
 #[tactic(auto, unfolding(crate::specs::Processes::cases))]
-fn cases(alloc: Global, cursor: &mut Cursor<'_>, depth: u32) -> Result<Items<Case>, TextFault>
+fn cases(alloc: Global, cursor: &mut Cursor<'_, '_>, depth: u32) -> Result<Items<Case>, TextFault>
     ensures { Reads (spec.cases (spec.switch_within depth) cursor.old) result cursor.new }
 {
     let mut found = Items::new(alloc);
@@ -162,7 +162,7 @@ fn cases(alloc: Global, cursor: &mut Cursor<'_>, depth: u32) -> Result<Items<Cas
 /// Reads a switch, from behind its word on.
 #[cycle(action)]
 #[tactic(auto, unfolding(crate::specs::Processes::switch_with))]
-fn switch_with(alloc: Global, cursor: &mut Cursor<'_>, depth: u32) -> Result<Switch, TextFault>
+fn switch_with(alloc: Global, cursor: &mut Cursor<'_, '_>, depth: u32) -> Result<Switch, TextFault>
     ensures { Reads (spec.switch_with (spec.switch_within depth) cursor.old) result cursor.new }
 {
     let on = signal(alloc, cursor)?;
@@ -173,7 +173,7 @@ fn switch_with(alloc: Global, cursor: &mut Cursor<'_>, depth: u32) -> Result<Swi
 
 /// Reads a switch, where so many may be open at once.
 #[cycle(action)]
-fn switch_within(alloc: Global, cursor: &mut Cursor<'_>, depth: u32) -> Result<Switch, TextFault>
+fn switch_within(alloc: Global, cursor: &mut Cursor<'_, '_>, depth: u32) -> Result<Switch, TextFault>
     ensures { Reads (spec.switch_within depth cursor.old) result cursor.new }
 {
     if depth == 0 {
@@ -185,7 +185,7 @@ fn switch_within(alloc: Global, cursor: &mut Cursor<'_>, depth: u32) -> Result<S
 
 /// Reads when updates are made, from behind the word `sync` on.
 #[tactic(auto, unfolding(crate::specs::Processes::trigger))]
-fn trigger(alloc: Global, cursor: &mut Cursor<'_>) -> Result<Trigger, TextFault>
+fn trigger(alloc: Global, cursor: &mut Cursor<'_, '_>) -> Result<Trigger, TextFault>
     ensures { Reads (spec.trigger cursor.old) result cursor.new }
 {
     if cursor.eat_word(b"always") {
@@ -213,7 +213,7 @@ fn trigger(alloc: Global, cursor: &mut Cursor<'_>) -> Result<Trigger, TextFault>
 #[tactic(auto, unfolding(crate::specs::Processes::sync_line))]
 fn sync_line(
     alloc: Global,
-    cursor: &mut Cursor<'_>,
+    cursor: &mut Cursor<'_, '_>,
     found: &mut Items<Assignment>,
 ) -> Result<bool, TextFault>
     ensures { Steps (spec.sync_line found.old cursor.old) result found.new cursor.new }
@@ -232,7 +232,7 @@ fn sync_line(
 
 /// Reads the lines of a sync, as many as there are.
 #[tactic(auto, unfolding(crate::specs::Processes::updates))]
-fn updates(alloc: Global, cursor: &mut Cursor<'_>) -> Result<Items<Assignment>, TextFault>
+fn updates(alloc: Global, cursor: &mut Cursor<'_, '_>) -> Result<Items<Assignment>, TextFault>
     ensures { Reads (spec.updates cursor.old) result cursor.new }
 {
     let mut found = Items::new(alloc);
@@ -246,7 +246,7 @@ fn updates(alloc: Global, cursor: &mut Cursor<'_>) -> Result<Items<Assignment>, 
 
 /// Reads a sync, from behind its word on.
 #[tactic(auto, unfolding(crate::specs::Processes::sync))]
-fn sync(alloc: Global, cursor: &mut Cursor<'_>) -> Result<Sync, TextFault>
+fn sync(alloc: Global, cursor: &mut Cursor<'_, '_>) -> Result<Sync, TextFault>
     ensures { Reads (spec.sync cursor.old) result cursor.new }
 {
     let when = trigger(alloc, cursor)?;
@@ -259,7 +259,7 @@ fn sync(alloc: Global, cursor: &mut Cursor<'_>) -> Result<Sync, TextFault>
 #[tactic(auto, unfolding(crate::specs::Processes::sync_part))]
 fn sync_part(
     alloc: Global,
-    cursor: &mut Cursor<'_>,
+    cursor: &mut Cursor<'_, '_>,
     found: &mut Items<Sync>,
 ) -> Result<bool, TextFault>
     ensures { Steps (spec.sync_part found.old cursor.old) result found.new cursor.new }
@@ -273,7 +273,7 @@ fn sync_part(
 
 /// Reads the syncs of a process, as many as there are.
 #[tactic(auto, unfolding(crate::specs::Processes::syncs))]
-fn syncs(alloc: Global, cursor: &mut Cursor<'_>) -> Result<Items<Sync>, TextFault>
+fn syncs(alloc: Global, cursor: &mut Cursor<'_, '_>) -> Result<Items<Sync>, TextFault>
     ensures { Reads (spec.syncs cursor.old) result cursor.new }
 {
     let mut found = Items::new(alloc);
@@ -289,7 +289,7 @@ fn syncs(alloc: Global, cursor: &mut Cursor<'_>) -> Result<Items<Sync>, TextFaul
 #[tactic(auto, unfolding(crate::specs::Processes::process))]
 pub(crate) fn process_at(
     alloc: Global,
-    cursor: &mut Cursor<'_>,
+    cursor: &mut Cursor<'_, '_>,
     place: Place,
 ) -> Result<Process, TextFault>
     ensures { Reads (spec.process place cursor.old) result cursor.new }

@@ -24,12 +24,12 @@ pub(crate) enum Sign {
 
 /// The tokens that are left, and the place of the last token of all.
 #[derive(Drop)]
-pub(crate) struct Cursor<'a> {
-    rest: &'a [Token<'a>],
+pub(crate) struct Cursor<'a, 't> {
+    rest: &'a [Token<'t>],
     end: Place,
 }
 
-impl<'a> Model for Cursor<'a> {
+impl<'a, 't> Model for Cursor<'a, 't> {
     ghost use Rattle.rtlil_tree.specs.Input.{Input};
 
     ghost Value = { Input };
@@ -52,8 +52,8 @@ fn is_sign(sign: Sign, kind: &TokenKind<'_>) -> bool
     }
 }
 
-impl<'a> Cursor<'a> {
-    pub(crate) fn new(tokens: &'a [Token<'a>]) -> Cursor<'a>
+impl<'a, 't> Cursor<'a, 't> {
+    pub(crate) fn new(tokens: &'a [Token<'t>]) -> Cursor<'a, 't>
         ensures { result ≡ start tokens.now }
     {
         let end = match tokens.last() {
@@ -75,7 +75,7 @@ impl<'a> Cursor<'a> {
 
     /// What the next token is.
     #[tactic(auto, unfolding(crate::specs::Input::kind))]
-    pub(crate) fn peek(&self) -> Option<&'a TokenKind<'a>>
+    pub(crate) fn peek(&self) -> Option<&'a TokenKind<'t>>
         ensures { option_copied result ≡ input.kind self.now }
     {
         match self.rest {

@@ -1,6 +1,6 @@
 //! Reading modules and files.
-ghost use Rattle.std.specs.Prelude.{◌≡◌, ℕ, Ok, Err, IfOk};
-ghost use Rattle.rtlil_lexer.specs.declared.fault.TextFaultKind.{TextFaultKind};
+ghost use Rattle.std.specs.Prelude.{◌≡◌, Ok, IfErr, IfOk};
+ghost use Rattle.rtlil_lexer.specs.Tokens.{Fails};
 ghost use Rattle.rtlil_tree.specs.Input.{Reads, Steps};
 ghost use Rattle.rtlil_tree.specs.Modules as spec;
 ghost use Rattle.rtlil_tree.specs.Modules.{parsed};
@@ -18,7 +18,7 @@ use std::alloc::Global;
 #[tactic(auto, unfolding(crate::specs::Modules::statement_with))]
 fn statement_with(
     alloc: Global,
-    cursor: &mut Cursor<'_>,
+    cursor: &mut Cursor<'_, '_>,
     waiting: Items<Attribute>,
 ) -> Result<Statement, TextFault>
     ensures { Reads (spec.statement_with waiting cursor.old) result cursor.new }
@@ -45,7 +45,7 @@ fn statement_with(
 #[tactic(auto, unfolding(crate::specs::Modules::statement_line))]
 fn statement_line(
     alloc: Global,
-    cursor: &mut Cursor<'_>,
+    cursor: &mut Cursor<'_, '_>,
     draft: &mut Statements,
 ) -> Result<bool, TextFault>
     ensures { Steps (spec.statement_line draft.old cursor.old) result draft.new cursor.new }
@@ -59,7 +59,7 @@ fn statement_line(
 #[tactic(auto, unfolding(crate::specs::Modules::module_line))]
 fn module_line(
     alloc: Global,
-    cursor: &mut Cursor<'_>,
+    cursor: &mut Cursor<'_, '_>,
     draft: &mut Statements,
 ) -> Result<bool, TextFault>
     ensures { Steps (spec.module_line draft.old cursor.old) result draft.new cursor.new }
@@ -79,7 +79,7 @@ fn module_line(
 
 /// Reads the lines of a module, up to its end.
 #[tactic(auto, unfolding(crate::specs::Modules::module_lines))]
-fn module_lines(alloc: Global, cursor: &mut Cursor<'_>) -> Result<Statements, TextFault>
+fn module_lines(alloc: Global, cursor: &mut Cursor<'_, '_>) -> Result<Statements, TextFault>
     ensures { Reads (spec.module_lines cursor.old) result cursor.new }
 {
     let mut draft = Statements {
@@ -98,7 +98,7 @@ fn module_lines(alloc: Global, cursor: &mut Cursor<'_>) -> Result<Statements, Te
 #[tactic(auto, unfolding(crate::specs::Modules::module_with))]
 fn module_with(
     alloc: Global,
-    cursor: &mut Cursor<'_>,
+    cursor: &mut Cursor<'_, '_>,
     attributes: Items<Attribute>,
 ) -> Result<Module, TextFault>
     ensures { Reads (spec.module_with attributes cursor.old) result cursor.new }
@@ -117,7 +117,7 @@ fn module_with(
 #[tactic(auto, unfolding(crate::specs::Modules::module_part))]
 fn module_part(
     alloc: Global,
-    cursor: &mut Cursor<'_>,
+    cursor: &mut Cursor<'_, '_>,
     draft: &mut Modules,
 ) -> Result<bool, TextFault>
     ensures { Steps (spec.module_part draft.old cursor.old) result draft.new cursor.new }
@@ -129,7 +129,7 @@ fn module_part(
 
 /// Reads one line of a file, or several that belong together, and tells whether more may come.
 #[tactic(auto, unfolding(crate::specs::Modules::file_line))]
-fn file_line(alloc: Global, cursor: &mut Cursor<'_>, draft: &mut Modules) -> Result<bool, TextFault>
+fn file_line(alloc: Global, cursor: &mut Cursor<'_, '_>, draft: &mut Modules) -> Result<bool, TextFault>
     ensures { Steps (spec.file_line draft.old cursor.old) result draft.new cursor.new }
 {
     if cursor.left() == 0 {
@@ -153,7 +153,7 @@ fn file_line(alloc: Global, cursor: &mut Cursor<'_>, draft: &mut Modules) -> Res
 
 /// Reads the lines of a file, up to the last.
 #[tactic(auto, unfolding(crate::specs::Modules::file_lines))]
-fn file_lines(alloc: Global, cursor: &mut Cursor<'_>) -> Result<Modules, TextFault>
+fn file_lines(alloc: Global, cursor: &mut Cursor<'_, '_>) -> Result<Modules, TextFault>
     ensures { Reads (spec.file_lines cursor.old) result cursor.new }
 {
     let mut draft = Modules {
@@ -170,7 +170,7 @@ fn file_lines(alloc: Global, cursor: &mut Cursor<'_>) -> Result<Modules, TextFau
 
 /// Reads a file.
 #[tactic(auto, unfolding(crate::specs::Modules::file))]
-fn whole_file(alloc: Global, cursor: &mut Cursor<'_>) -> Result<File, TextFault>
+fn whole_file(alloc: Global, cursor: &mut Cursor<'_, '_>) -> Result<File, TextFault>
     ensures { Reads (spec.file cursor.old) result cursor.new }
 {
     let lines = file_lines(alloc, cursor)?;
@@ -208,7 +208,7 @@ fn whole_file(alloc: Global, cursor: &mut Cursor<'_>) -> Result<File, TextFault>
 /// it is `Syntax` at the last one. `NoMemory` comes where there was no memory for the tree, and for nothing else.
 pub fn parse(alloc: Global, tokens: &[Token<'_>]) -> Result<File, TextFault>
     ensures tree { IfOk result (λ file. parsed tokens.now ≡ Ok file) }
-    ensures fault { (kind : TextFaultKind) (line column : ℕ) → result ≡ Err (TextFault.At kind line column) → parsed tokens.now ≡ Err (TextFault.At kind line column) }
+    ensures fault { IfErr result (λ fault. Fails fault (parsed tokens.now)) }
 {
     let mut cursor = Cursor::new(tokens);
     whole_file(alloc, &mut cursor)

@@ -12,7 +12,7 @@ use std::alloc::Global;
 const DEEPEST: u32 = 256;
 
 #[tactic(auto, unfolding(crate::specs::Sigs::constant))]
-pub(crate) fn constant(alloc: Global, cursor: &mut Cursor<'_>) -> Result<Const, TextFault>
+pub(crate) fn constant(alloc: Global, cursor: &mut Cursor<'_, '_>) -> Result<Const, TextFault>
     ensures { Reads (spec.constant cursor.old) result cursor.new }
 {
     match cursor.peek() {
@@ -38,7 +38,7 @@ pub(crate) fn constant(alloc: Global, cursor: &mut Cursor<'_>) -> Result<Const, 
 
 /// Reads a slice, from behind its bracket on.
 #[tactic(auto, unfolding(crate::specs::Sigs::slice))]
-fn slice(cursor: &mut Cursor<'_>) -> Result<Slice, TextFault>
+fn slice(cursor: &mut Cursor<'_, '_>) -> Result<Slice, TextFault>
     ensures { Reads (spec.slice cursor.old) result cursor.new }
 {
     let high = cursor.natural()?;
@@ -52,7 +52,7 @@ fn slice(cursor: &mut Cursor<'_>) -> Result<Slice, TextFault>
 }
 
 #[tactic(auto, unfolding(crate::specs::Sigs::slices))]
-fn slices(alloc: Global, cursor: &mut Cursor<'_>) -> Result<Items<Slice>, TextFault>
+fn slices(alloc: Global, cursor: &mut Cursor<'_, '_>) -> Result<Items<Slice>, TextFault>
     ensures { Reads (spec.slices cursor.old) result cursor.new }
 {
     let mut found = Items::new(alloc);
@@ -68,7 +68,7 @@ fn slices(alloc: Global, cursor: &mut Cursor<'_>) -> Result<Items<Slice>, TextFa
 /// Reads the parts of a concatenation and the brace behind them.
 #[cycle(signal)]
 #[tactic(auto, unfolding(crate::specs::Sigs::parts))]
-fn parts(alloc: Global, cursor: &mut Cursor<'_>, depth: u32) -> Result<Items<Sig>, TextFault>
+fn parts(alloc: Global, cursor: &mut Cursor<'_, '_>, depth: u32) -> Result<Items<Sig>, TextFault>
     ensures { Reads (spec.parts (spec.sig_within depth) cursor.old) result cursor.new }
 {
     let mut found = Items::new(alloc);
@@ -85,7 +85,7 @@ fn parts(alloc: Global, cursor: &mut Cursor<'_>, depth: u32) -> Result<Items<Sig
 #[cycle(signal)]
 fn braces_within(
     alloc: Global,
-    cursor: &mut Cursor<'_>,
+    cursor: &mut Cursor<'_, '_>,
     depth: u32,
 ) -> Result<Items<Sig>, TextFault>
     ensures { Reads (spec.braces_within depth cursor.old) result cursor.new }
@@ -99,7 +99,7 @@ fn braces_within(
 
 #[cycle(signal)]
 #[tactic(auto, unfolding(crate::specs::Sigs::part_with))]
-fn part_within(alloc: Global, cursor: &mut Cursor<'_>, depth: u32) -> Result<SigPart, TextFault>
+fn part_within(alloc: Global, cursor: &mut Cursor<'_, '_>, depth: u32) -> Result<SigPart, TextFault>
     ensures { Reads (spec.part_with (spec.braces_within depth) cursor.old) result cursor.new }
 {
     if cursor.sees(Sign::LeftBrace) {
@@ -117,7 +117,7 @@ fn part_within(alloc: Global, cursor: &mut Cursor<'_>, depth: u32) -> Result<Sig
 
 #[cycle(signal)]
 #[tactic(auto, unfolding(crate::specs::Sigs::sig_with))]
-fn sig_within(alloc: Global, cursor: &mut Cursor<'_>, depth: u32) -> Result<Sig, TextFault>
+fn sig_within(alloc: Global, cursor: &mut Cursor<'_, '_>, depth: u32) -> Result<Sig, TextFault>
     ensures { Reads (spec.sig_within depth cursor.old) result cursor.new }
 {
     let part = part_within(alloc, cursor, depth)?;
@@ -126,7 +126,7 @@ fn sig_within(alloc: Global, cursor: &mut Cursor<'_>, depth: u32) -> Result<Sig,
 }
 
 /// Reads a signal.
-pub(crate) fn signal(alloc: Global, cursor: &mut Cursor<'_>) -> Result<Sig, TextFault>
+pub(crate) fn signal(alloc: Global, cursor: &mut Cursor<'_, '_>) -> Result<Sig, TextFault>
     ensures { Reads (spec.sig cursor.old) result cursor.new }
 {
     sig_within(alloc, cursor, DEEPEST)

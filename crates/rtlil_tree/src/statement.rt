@@ -17,7 +17,7 @@ use std::alloc::Global;
 
 /// Reads an attribute, from behind its word on.
 #[tactic(auto, unfolding(crate::specs::Statements::attribute))]
-pub(crate) fn attribute(alloc: Global, cursor: &mut Cursor<'_>) -> Result<Attribute, TextFault>
+pub(crate) fn attribute(alloc: Global, cursor: &mut Cursor<'_, '_>) -> Result<Attribute, TextFault>
     ensures { Reads (spec.attribute cursor.old) result cursor.new }
 {
     let name = cursor.identifier(alloc)?;
@@ -28,7 +28,7 @@ pub(crate) fn attribute(alloc: Global, cursor: &mut Cursor<'_>) -> Result<Attrib
 
 /// Reads two signals and the line's end.
 #[tactic(auto, unfolding(crate::specs::Statements::assignment))]
-pub(crate) fn assignment(alloc: Global, cursor: &mut Cursor<'_>) -> Result<Assignment, TextFault>
+pub(crate) fn assignment(alloc: Global, cursor: &mut Cursor<'_, '_>) -> Result<Assignment, TextFault>
     ensures { Reads (spec.assignment cursor.old) result cursor.new }
 {
     let left = signal(alloc, cursor)?;
@@ -38,7 +38,7 @@ pub(crate) fn assignment(alloc: Global, cursor: &mut Cursor<'_>) -> Result<Assig
 }
 
 #[tactic(auto, unfolding(crate::specs::Statements::parameter_kind))]
-fn parameter_kind(cursor: &mut Cursor<'_>) -> Result<ParameterKind, TextFault>
+fn parameter_kind(cursor: &mut Cursor<'_, '_>) -> Result<ParameterKind, TextFault>
     ensures { Reads (spec.parameter_kind cursor.old) result cursor.new }
 {
     if cursor.eat_word(b"signed") {
@@ -51,7 +51,7 @@ fn parameter_kind(cursor: &mut Cursor<'_>) -> Result<ParameterKind, TextFault>
 }
 
 #[tactic(auto, unfolding(crate::specs::Statements::default))]
-fn default(alloc: Global, cursor: &mut Cursor<'_>) -> Result<Option<Const>, TextFault>
+fn default(alloc: Global, cursor: &mut Cursor<'_, '_>) -> Result<Option<Const>, TextFault>
     ensures { Reads (spec.default cursor.old) result cursor.new }
 {
     if cursor.sees(Sign::EndOfLine) {
@@ -63,7 +63,7 @@ fn default(alloc: Global, cursor: &mut Cursor<'_>) -> Result<Option<Const>, Text
 
 /// Reads a parameter of a module, from behind its word on.
 #[tactic(auto, unfolding(crate::specs::Statements::parameter))]
-pub(crate) fn parameter(alloc: Global, cursor: &mut Cursor<'_>) -> Result<Parameter, TextFault>
+pub(crate) fn parameter(alloc: Global, cursor: &mut Cursor<'_, '_>) -> Result<Parameter, TextFault>
     ensures { Reads (spec.parameter cursor.old) result cursor.new }
 {
     let kind = parameter_kind(cursor)?;
@@ -79,7 +79,7 @@ pub(crate) fn parameter(alloc: Global, cursor: &mut Cursor<'_>) -> Result<Parame
 
 /// Reads one option of a wire, if it comes next.
 #[tactic(auto, unfolding(crate::specs::Statements::wire_option))]
-fn wire_option(cursor: &mut Cursor<'_>, options: &mut WireOptions) -> Result<bool, TextFault>
+fn wire_option(cursor: &mut Cursor<'_, '_>, options: &mut WireOptions) -> Result<bool, TextFault>
     ensures { Steps (spec.wire_option options.old cursor.old) result options.new cursor.new }
 {
     if cursor.eat_word(b"width") {
@@ -103,7 +103,7 @@ fn wire_option(cursor: &mut Cursor<'_>, options: &mut WireOptions) -> Result<boo
 }
 
 #[tactic(auto, unfolding(crate::specs::Statements::wire_options))]
-fn wire_options(cursor: &mut Cursor<'_>) -> Result<WireOptions, TextFault>
+fn wire_options(cursor: &mut Cursor<'_, '_>) -> Result<WireOptions, TextFault>
     ensures { Reads (spec.wire_options cursor.old) result cursor.new }
 {
     let mut options = WireOptions {
@@ -127,7 +127,7 @@ fn wire_options(cursor: &mut Cursor<'_>) -> Result<WireOptions, TextFault>
 #[tactic(auto, unfolding(crate::specs::Statements::wire))]
 pub(crate) fn wire(
     alloc: Global,
-    cursor: &mut Cursor<'_>,
+    cursor: &mut Cursor<'_, '_>,
     attributes: Items<Attribute>,
 ) -> Result<Wire, TextFault>
     ensures { Reads (spec.wire attributes cursor.old) result cursor.new }
@@ -144,7 +144,7 @@ pub(crate) fn wire(
 
 /// Reads one option of a memory, if it comes next.
 #[tactic(auto, unfolding(crate::specs::Statements::memory_option))]
-fn memory_option(cursor: &mut Cursor<'_>, options: &mut MemoryOptions) -> Result<bool, TextFault>
+fn memory_option(cursor: &mut Cursor<'_, '_>, options: &mut MemoryOptions) -> Result<bool, TextFault>
     ensures { Steps (spec.memory_option options.old cursor.old) result options.new cursor.new }
 {
     if cursor.eat_word(b"width") {
@@ -160,7 +160,7 @@ fn memory_option(cursor: &mut Cursor<'_>, options: &mut MemoryOptions) -> Result
 }
 
 #[tactic(auto, unfolding(crate::specs::Statements::memory_options))]
-fn memory_options(cursor: &mut Cursor<'_>) -> Result<MemoryOptions, TextFault>
+fn memory_options(cursor: &mut Cursor<'_, '_>) -> Result<MemoryOptions, TextFault>
     ensures { Reads (spec.memory_options cursor.old) result cursor.new }
 {
     let mut options = MemoryOptions {
@@ -180,7 +180,7 @@ fn memory_options(cursor: &mut Cursor<'_>) -> Result<MemoryOptions, TextFault>
 #[tactic(auto, unfolding(crate::specs::Statements::memory))]
 pub(crate) fn memory(
     alloc: Global,
-    cursor: &mut Cursor<'_>,
+    cursor: &mut Cursor<'_, '_>,
     attributes: Items<Attribute>,
 ) -> Result<Memory, TextFault>
     ensures { Reads (spec.memory attributes cursor.old) result cursor.new }
@@ -197,7 +197,7 @@ pub(crate) fn memory(
 
 /// Reads what a cell gives a parameter, from behind its word on.
 #[tactic(auto, unfolding(crate::specs::Statements::setting))]
-fn setting(alloc: Global, cursor: &mut Cursor<'_>) -> Result<Setting, TextFault>
+fn setting(alloc: Global, cursor: &mut Cursor<'_, '_>) -> Result<Setting, TextFault>
     ensures { Reads (spec.setting cursor.old) result cursor.new }
 {
     let kind = parameter_kind(cursor)?;
@@ -209,7 +209,7 @@ fn setting(alloc: Global, cursor: &mut Cursor<'_>) -> Result<Setting, TextFault>
 
 /// Reads what a port of a cell is joined to, from behind its word on.
 #[tactic(auto, unfolding(crate::specs::Statements::connection))]
-fn connection(alloc: Global, cursor: &mut Cursor<'_>) -> Result<Connection, TextFault>
+fn connection(alloc: Global, cursor: &mut Cursor<'_, '_>) -> Result<Connection, TextFault>
     ensures { Reads (spec.connection cursor.old) result cursor.new }
 {
     let port = cursor.identifier(alloc)?;
@@ -220,7 +220,7 @@ fn connection(alloc: Global, cursor: &mut Cursor<'_>) -> Result<Connection, Text
 
 /// Reads one line of a cell, and tells whether more may come.
 #[tactic(auto, unfolding(crate::specs::Statements::cell_line))]
-fn cell_line(alloc: Global, cursor: &mut Cursor<'_>, cell: &mut Cell) -> Result<bool, TextFault>
+fn cell_line(alloc: Global, cursor: &mut Cursor<'_, '_>, cell: &mut Cell) -> Result<bool, TextFault>
     ensures { Steps (spec.cell_line cell.old cursor.old) result cell.new cursor.new }
 {
     if cursor.eat(Sign::EndOfLine) {
@@ -257,7 +257,7 @@ fn opened(alloc: Global, kind: Name, name: Name, attributes: Items<Attribute>) -
 
 /// Reads the lines of a cell, up to its end.
 #[tactic(auto, unfolding(crate::specs::Statements::cell_lines))]
-fn cell_lines(alloc: Global, cursor: &mut Cursor<'_>, mut cell: Cell) -> Result<Cell, TextFault>
+fn cell_lines(alloc: Global, cursor: &mut Cursor<'_, '_>, mut cell: Cell) -> Result<Cell, TextFault>
     ensures { Reads (spec.cell_lines cell cursor.old) result cursor.new }
 {
     for _turn in 0..cursor.left() {
@@ -272,7 +272,7 @@ fn cell_lines(alloc: Global, cursor: &mut Cursor<'_>, mut cell: Cell) -> Result<
 #[tactic(auto, unfolding(crate::specs::Statements::cell))]
 pub(crate) fn cell(
     alloc: Global,
-    cursor: &mut Cursor<'_>,
+    cursor: &mut Cursor<'_, '_>,
     attributes: Items<Attribute>,
 ) -> Result<Cell, TextFault>
     ensures { Reads (spec.cell attributes cursor.old) result cursor.new }
