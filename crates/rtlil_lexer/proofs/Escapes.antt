@@ -2,7 +2,7 @@
 use Rattle.std.proofs.Common.{◌≡◌, ℕ, zero, suc, ◌+◌, ◌-◌, ◌*◌, ◌^◌, ◌<◌, ◌≤◌, ◌==◌, ◌&&◌, not, Bool, true, false, cond, List, [], ◌∷◌, length, get_or, drop, Option, Some, None, refl, sym, ap, ◌∙◌, arith, add-one}
 use Rattle.std.specs.Option.{option_map}
 use Rattle.std.specs.List.{take_while}
-use Rattle.std.proofs.Math.Nat.{pow-suc}
+use Rattle.std.proofs.Math.Nat.{pow-suc, pow-le-pow_right}
 use Rattle.std.proofs.lemmas.List.Sums.{take_while-cons}
 use Rattle.std.proofs.lemmas.Bool.Decides.{nat_tests}
 use Rattle.std.proofs.lemmas.List.{at_drop_more, at_drop_all, drop-drop}
@@ -106,6 +106,13 @@ octal_below n i b lt is =
     let small = octal_small b is in
     let e : 8 ^ (i + 1) ≡ 8 ^ i * 8 = ap (λ k. 8 ^ k) (add-one i) ∙ pow-suc 8 i in
     omega arith
+
+-- a number of at most four digits leaves room for one more
+pub octal_fit : (n i : ℕ) → n < 8 ^ i → i ≤ 4 → n < 8 ^ 4
+octal_fit n i lt le = omega (arith, pow-le-pow_right {n = 8} (omega arith) {i = i} {j = 4} le)
+
+pub octal_digit_below : (b : ℕ) → is_octal_digit b ≡ true → b - 48 < 8
+octal_digit_below b is = let small = octal_small b is in omega arith
 
 -- a list goes on behind so many bytes that were counted
 pub unescaped_behind_drop : (counted : ℕ) (bytes : List ℕ) → unescaped_behind counted bytes ≡ unescaped_behind 0 (drop counted bytes)

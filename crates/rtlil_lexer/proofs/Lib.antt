@@ -1,6 +1,6 @@
-pub mod Digits
 pub mod Decimals
+pub mod Digits
 pub mod Escapes
 pub mod Fronts
-pub mod Zeros
 pub mod Steps
+pub mod Zeros

@@ -152,3 +152,100 @@ fn set_from(bits: &mut Bits, from: u32)
         at += part;
     }
 }
+
+#[cfg(test)]
+mod tests {
+    use super::{Constant, WIDEST};
+    use sim_base::{Bits, NoMemory};
+    use std::alloc::Global;
+    use std::test::Fail;
+
+    fn is_digit(byte: u8) -> bool
+        ensures { result ≡ is_constant_digit byte }
+    {
+        byte == b'0' || byte == b'1' || byte == b'x' || byte == b'z' || byte == b'm' || byte == b'-'
+    }
+
+    fn are_digits(bytes: &[u8]) -> bool
+        ensures { result ≡ list_all is_constant_digit bytes.now }
+    {
+        bytes.iter().all(|byte| is_digit(*byte))
+    }
+
+    /// The constant, where its digits are digits and fit.
+    fn constant(width: u32, digits: &[u8]) -> Option<Constant<'_>> {
+        if width > WIDEST || digits.len() > width as usize || !are_digits(digits) {
+            return None;
+        }
+        Some(Constant::of(width, digits))
+    }
+
+    /// The binary digits of a value, the most significant first.
+    fn binary(alloc: Global, bits: &Bits) -> Result<Vec<u8>, NoMemory> {
+        let mut text = Vec::new(alloc);
+        for at in (0..bits.width()).rev() {
+            text.push(if bits.bit(at) { b'1' } else { b'0' })?;
+        }
+        Ok(text)
+    }
+
+    #[test]
+    fn digits_are_filled_in_front(rt: HostRuntime) -> Result<(), Fail> {
+        let cases: [(u32, &[u8], &[u8], &[u8], &[u8]); 11] = [
+            (8, b"1", b"00000001", b"11111111", b"00000000"),
+            (8, b"0", b"00000000", b"11111111", b"00000000"),
+            (8, b"x", b"00000000", b"00000000", b"00000000"),
+            (4, b"01", b"0001", b"1111", b"0000"),
+            (4, b"1x", b"0010", b"1110", b"0000"),
+            (4, b"-", b"0000", b"0000", b"1111"),
+            (4, b"-1", b"0001", b"0001", b"1110"),
+            (6, b"-01xzm", b"001000", b"011000", b"100000"),
+            (5, b"m10", b"00010", b"00011", b"00000"),
+            (0, b"", b"", b"", b""),
+            (3, b"", b"000", b"000", b"000"),
+        ];
+        for (width, digits, value, known, any) in cases {
+            let constant = constant(width, digits).ok_or("no constant")?;
+            assert_eq!(rt; constant.width(), width);
+            assert_eq!(rt;
+                binary(rt.alloc(), &constant.value(rt.alloc())?)?.as_slice(),
+                value
+            );
+            assert_eq!(rt;
+                binary(rt.alloc(), &constant.known(rt.alloc())?)?.as_slice(),
+                known
+            );
+            assert_eq!(rt;
+                binary(rt.alloc(), &constant.any(rt.alloc())?)?.as_slice(),
+                any
+            );
+        }
+        Ok(())
+    }
+
+    #[test]
+    fn digits_are_filled_beyond_64_bits(rt: HostRuntime) -> Result<(), Fail> {
+        let cases: [(u32, &[u8], [u8; 2], [u8; 2], [u8; 2]); 4] = [
+            (70, b"1", *b"01", *b"11", *b"00"),
+            (70, b"z", *b"00", *b"00", *b"00"),
+            (200, b"-0", *b"00", *b"01", *b"10"),
+            (130, b"0", *b"00", *b"11", *b"00"),
+        ];
+        for (width, digits, value, known, any) in cases {
+            let constant = constant(width, digits).ok_or("no constant")?;
+            let numbers = [
+                (constant.value(rt.alloc())?, value),
+                (constant.known(rt.alloc())?, known),
+                (constant.any(rt.alloc())?, any),
+            ];
+            for (bits, [others, least]) in numbers {
+                let text = binary(rt.alloc(), &bits)?;
+                assert_eq!(rt; text.len(), width as usize);
+                let (last, front) = text.as_slice().split_last().ok_or("no bit")?;
+                assert_eq!(rt; *last, least);
+                assert!(rt; front.iter().all(|digit| *digit == others));
+            }
+        }
+        Ok(())
+    }
+}

@@ -60,7 +60,7 @@ impl<'a> Cursor<'a> {
         let next = Cursor {
             rest: &self.rest[piece.length..],
             sound: self.sound - piece.length,
-            place: self.place.behind(&piece),
+            place: self.place.behind(&piece.token, piece.length),
         };
         Ok((token_at(self.place, piece.token), next))
     }
@@ -76,7 +76,28 @@ fn last_end<'a>(place: Place) -> Option<Token<'a>>
     token_at(place, Some(TokenKind::EndOfLine))
 }
 
-/// Reads the tokens of a text in RTLIL.
+/// Reads the tokens of a text in RTLIL, as the chapter on its text in the Yosys manual has them.
+///
+/// - Lines end with a line feed, and the text's end ends its last line; behind a line feed at the end no further line
+///   begins, and an empty text has one empty line. White space is space, tab and carriage return. `#` where a token may
+///   begin starts a comment up to the line's end. A token ends where the next byte no longer belongs to it, so white
+///   space between tokens may be left out.
+/// - A word has lower-case letters and `_`. An identifier has `\` or `$` and one or more bytes that are neither white
+///   space nor a line feed. An integer has digits, behind a `-` or without one. A constant has digits, `'`, an `s` or
+///   none, and any number of the digits `0 1 x z m -`. A string stands between double quotes; in it `\n`, `\t`, a
+///   backslash with one to three octal digits, and a backslash with any other byte are escapes. The signs are
+///   `{ } [ ] : ,`.
+///
+/// Each token has the line and the column of its first byte. The fault is the first in the text, with its place:
+///
+/// - `BadByte` at a byte that starts no token, is 0 or is no UTF-8, also within a comment, a string or an identifier;
+///   at a `-`, `\` or `$` behind which the rest of its token is missing;
+/// - `BadString` at a string that is not closed on its line or has an octal escape above 255;
+/// - `BadNumber` at an integer outside 32 bits with a sign, or at a constant of more than 67,108,864 bits or with more
+///   digits than bits.
+///
+/// The bounds of numbers, the choice among faults and their places are this crate's own. Memory is taken for the list of
+/// tokens alone, which point into the text.
 pub fn lex(alloc: Global, bytes: &[u8]) -> Result<Vec<Token<'_>>, TextFault>
     requires countable { length bytes.now < 4294967295 }
     ensures tokens { IfOk result (λ tokens. lexed bytes.now ≡ Ok tokens.items) }

@@ -13,6 +13,8 @@ mod quoted;
 mod sound;
 mod spelling;
 mod strings;
+#[cfg(test)]
+mod tests;
 mod token;
 
 ghost use Rattle.std.specs.Prelude.{◌≡◌};

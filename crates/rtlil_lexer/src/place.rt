@@ -2,7 +2,6 @@
 ghost use Rattle.std.specs.Prelude.{◌≡◌, ◌<◌, ◌+◌};
 ghost use Rattle.rtlil_lexer.specs.Tokens.{behind, onward, start};
 
-use crate::piece::Piece;
 use crate::token::TokenKind;
 
 /// A line and a column, both from 1; columns count bytes.
@@ -31,18 +30,18 @@ impl Place {
         }
     }
 
-    /// The place behind a piece: behind a line's end it is the beginning of the next line.
-    pub(crate) fn behind(self, piece: &Piece<'_>) -> Place
+    /// The place behind a piece that takes so many bytes: behind a line's end it is the beginning of the next line.
+    pub(crate) fn behind(self, token: &Option<TokenKind<'_>>, size: usize) -> Place
         requires line { self.line + 1 < 4294967296 }
-        requires column { self.column + piece.now.length < 4294967296 }
-        ensures { result ≡ behind self piece.now.token piece.now.length }
+        requires column { self.column + size < 4294967296 }
+        ensures { result ≡ behind self token.now size }
     {
-        match piece.token {
+        match token {
             Some(TokenKind::EndOfLine) => Place {
                 line: self.line + 1,
                 column: 1,
             },
-            _ => self.onward(piece.length),
+            _ => self.onward(size),
         }
     }
 }

@@ -49,6 +49,13 @@ impl<'a> Quoted<'a> {
         let bytes = decoded(alloc, self.body)?;
         Ok(Name::new(bytes))
     }
+
+    /// How many bytes it stands for. Each call counts them.
+    pub fn len(&self) -> usize
+        ensures { result ≡ length self.now }
+    {
+        characters_in(self.body)
+    }
 }
 
 /// A character of a string: its number, and how many bytes of the text stand for it.
@@ -75,12 +82,12 @@ fn named_escape(byte: u8) -> u8
     }
 }
 
-/// The octal digits at the front.
+/// The octal digits at the front, of which five fit in 16 bits.
 fn octal_at(front: &[u8]) -> Character
-    requires { length front.now ≤ 3 }
+    requires { length front.now ≤ 5 }
     ensures value { result.value ≡ octal_behind 0 (take_while is_octal_digit front.now) }
     ensures length { result.length ≡ length (take_while is_octal_digit front.now) }
-    ensures short { result.length ≤ 3 }
+    ensures within { result.length ≤ length front.now }
 {
     let mut value = 0u16;
     for (at, byte) in front.iter().enumerate() {
@@ -149,6 +156,19 @@ fn is_all_bytes(body: &[u8]) -> bool
     true
 }
 
+/// How many characters a string has.
+fn characters_in(body: &[u8]) -> usize
+    ensures { result ≡ length (unescaped body.now) }
+{
+    let mut count = 0;
+    let mut at = 0;
+    while at < body.len() {
+        at += character_at(body, at).length;
+        count += 1;
+    }
+    count
+}
+
 /// The characters of a string.
 fn decoded(alloc: Global, body: &[u8]) -> Result<Vec<u8>, NoMemory>
     requires { list_all is_byte (unescaped body.now) ≡ true }
@@ -162,4 +182,47 @@ fn decoded(alloc: Global, body: &[u8]) -> Result<Vec<u8>, NoMemory>
         at += character.length;
     }
     Ok(bytes)
+}
+
+#[cfg(test)]
+mod tests {
+    use super::Quoted;
+    use std::test::Fail;
+
+    #[test]
+    fn escapes_stand_for_their_bytes(rt: HostRuntime) -> Result<(), Fail> {
+        let cases: [(&[u8], &[u8]); 16] = [
+            (b"", b""),
+            (b"add 1", b"add 1"),
+            (br"\n", &[10]),
+            (br"\t", &[9]),
+            (br"\1", &[1]),
+            (br"\12", &[10]),
+            (br"\123", &[83]),
+            (br"\1234", &[83, 52]),
+            (br"\0", &[0]),
+            (br"\377", &[255]),
+            (br"\18", &[1, 56]),
+            (br"\8", &[56]),
+            (br"\\", &[92]),
+            (br#"\""#, &[34]),
+            (br"\q", &[113]),
+            (br"a\\n\tb", &[97, 92, 110, 9, 98]),
+        ];
+        for (body, want) in cases {
+            let quoted = Quoted::of(body).ok_or("no string")?;
+            let name = quoted.to_name(rt.alloc())?;
+            assert_eq!(rt; name.as_bytes(), want);
+            assert_eq!(rt; quoted.len(), want.len());
+        }
+        Ok(())
+    }
+
+    #[test]
+    fn a_number_above_255_is_no_byte(rt: HostRuntime) {
+        let cases: [&[u8]; 4] = [br"\400", br"\777", br"ok\400", br"\377\400"];
+        for body in cases {
+            assert!(rt; Quoted::of(body).is_none());
+        }
+    }
 }

@@ -2,7 +2,7 @@ use Rattle.std.proofs.Common.{◌≡◌, ◌+◌, ◌-◌, ◌*◌, ◌∷◌, l
 use Rattle.std.specs.List.{take_while}
 use Rattle.rtlil_lexer.specs.Characters.{is_octal_digit}
 use Rattle.rtlil_lexer.specs.Strings.{octal_behind}
-use Rattle.rtlil_lexer.proofs.Escapes.{digits_more, digits_stop, digits_end, octal_step, octal_end, octal_below}
+use Rattle.rtlil_lexer.proofs.Escapes.{digits_more, digits_stop, digits_end, octal_step, octal_end, octal_below, octal_fit, octal_digit_below}
 use Rattle.rtlil_lexer.proofs.quoted.octal_at.Goals as goal
 
 pub returns-then-not-is_octal_digit-clause-value : goal.returns-then-not-is_octal_digit-clause-value
@@ -17,6 +17,16 @@ returns-then-not-is_octal_digit-clause-length c =
     let at = c.loop-at.at in
     let front = c.args.front.now in
     omega (arith, ap length (digits_stop at (get_or front at 0) front c.loop-at-test.true refl (sym c.is_octal_digit.ensures ∙ c.if-not-is_octal_digit.true)), c.loop-at.invariant.count)
+
+pub overflow_mul-value : goal.overflow_mul-value
+overflow_mul-value c = let fit = octal_fit c.loop-at.value c.loop-at.at c.loop-at.invariant.below (omega arith) in omega arith
+
+pub overflow_add-value : goal.overflow_add-value
+overflow_add-value c =
+    let fit = octal_fit c.loop-at.value c.loop-at.at c.loop-at.invariant.below (omega arith) in
+    let d = octal_digit_below (get_or c.args.front.now c.loop-at.at 0) (sym c.is_octal_digit.ensures ∙ c.if-not-is_octal_digit.false) in
+    let e = c.from.ensures in
+    omega arith
 
 pub loop-at-preserved : goal.loop-at-preserved
 loop-at-preserved c =
