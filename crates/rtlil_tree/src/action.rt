@@ -173,7 +173,11 @@ fn switch_with(alloc: Global, cursor: &mut Cursor<'_, '_>, depth: u32) -> Result
 
 /// Reads a switch, where so many may be open at once.
 #[cycle(action)]
-fn switch_within(alloc: Global, cursor: &mut Cursor<'_, '_>, depth: u32) -> Result<Switch, TextFault>
+fn switch_within(
+    alloc: Global,
+    cursor: &mut Cursor<'_, '_>,
+    depth: u32,
+) -> Result<Switch, TextFault>
     ensures { Reads (spec.switch_within depth cursor.old) result cursor.new }
 {
     if depth == 0 {

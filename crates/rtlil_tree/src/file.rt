@@ -122,14 +122,18 @@ fn module_part(
 ) -> Result<bool, TextFault>
     ensures { Steps (spec.module_part draft.old cursor.old) result draft.new cursor.new }
 {
-    let waiting = std::mem::replace(&mut draft.waiting, Items::new(alloc));
-    draft.found.push(module_with(alloc, cursor, waiting)?)?;
+    let attributes = std::mem::replace(&mut draft.waiting, Items::new(alloc));
+    draft.found.push(module_with(alloc, cursor, attributes)?)?;
     Ok(true)
 }
 
 /// Reads one line of a file, or several that belong together, and tells whether more may come.
 #[tactic(auto, unfolding(crate::specs::Modules::file_line))]
-fn file_line(alloc: Global, cursor: &mut Cursor<'_, '_>, draft: &mut Modules) -> Result<bool, TextFault>
+fn file_line(
+    alloc: Global,
+    cursor: &mut Cursor<'_, '_>,
+    draft: &mut Modules,
+) -> Result<bool, TextFault>
     ensures { Steps (spec.file_line draft.old cursor.old) result draft.new cursor.new }
 {
     if cursor.left() == 0 {

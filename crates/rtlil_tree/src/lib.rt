@@ -12,6 +12,8 @@ mod process;
 mod sig;
 mod signal;
 mod statement;
+#[cfg(test)]
+mod tests;
 
 pub use file::parse;
 pub use module::{

@@ -28,7 +28,10 @@ pub(crate) fn attribute(alloc: Global, cursor: &mut Cursor<'_, '_>) -> Result<At
 
 /// Reads two signals and the line's end.
 #[tactic(auto, unfolding(crate::specs::Statements::assignment))]
-pub(crate) fn assignment(alloc: Global, cursor: &mut Cursor<'_, '_>) -> Result<Assignment, TextFault>
+pub(crate) fn assignment(
+    alloc: Global,
+    cursor: &mut Cursor<'_, '_>,
+) -> Result<Assignment, TextFault>
     ensures { Reads (spec.assignment cursor.old) result cursor.new }
 {
     let left = signal(alloc, cursor)?;
@@ -144,7 +147,10 @@ pub(crate) fn wire(
 
 /// Reads one option of a memory, if it comes next.
 #[tactic(auto, unfolding(crate::specs::Statements::memory_option))]
-fn memory_option(cursor: &mut Cursor<'_, '_>, options: &mut MemoryOptions) -> Result<bool, TextFault>
+fn memory_option(
+    cursor: &mut Cursor<'_, '_>,
+    options: &mut MemoryOptions,
+) -> Result<bool, TextFault>
     ensures { Steps (spec.memory_option options.old cursor.old) result options.new cursor.new }
 {
     if cursor.eat_word(b"width") {
