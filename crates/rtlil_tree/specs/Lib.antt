@@ -1,0 +1,5 @@
+pub mod Input
+pub mod Sigs
+pub mod Statements
+pub mod Processes
+pub mod Modules

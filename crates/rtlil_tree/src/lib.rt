@@ -1,0 +1,25 @@
+//! The tree of a file in RTLIL, as the Yosys manual has it: modules with their wires, memories, cells,
+//! connections and processes, each in its order.
+#![tactic(auto)]
+
+mod action;
+mod cursor;
+mod draft;
+mod file;
+mod module;
+mod place;
+mod process;
+mod sig;
+mod signal;
+mod statement;
+#[cfg(test)]
+mod tests;
+
+pub use file::parse;
+pub use module::{
+    Assignment, Attribute, Cell, Connection, File, Memory, MemoryOptions, Module, Parameter,
+    ParameterKind, Setting, Statement, Wire, WireOptions,
+};
+pub use place::Place;
+pub use process::{Action, Case, Process, Switch, Sync, Trigger};
+pub use sig::{Const, Sig, SigPart, Slice};
