@@ -1,4 +1,5 @@
 pub mod Signal
+pub mod State
 pub mod Output
 pub mod Valuation
 pub mod Free
