@@ -5,3 +5,4 @@ pub mod Valuation
 pub mod Free
 pub mod Next
 pub mod Run
+pub mod Valid
