@@ -9,6 +9,7 @@ mod laws;
 mod memory;
 mod netlist;
 mod register;
+mod validity;
 
 pub use cell::{Cell, Op};
 pub use diagnostic::{Diag, DiagKind, Trigger};
