@@ -264,11 +264,14 @@ slots_run c before (i ∷ is) = i.first_slot == before && slots_run c (before + 
 abbrev pub is_before : List ℕ → List ℕ → Bool
 is_before x y = is_lt (slice_cmp nat_cmp x y)
 
--- the names stand in the byte order, and none twice
+abbrev pub stands_before : Item → List Item → Bool
+stands_before i [] = true
+stands_before i (j ∷ is) = is_before i.name j.name
+
+-- the names stand in the byte order, and none twice: each is before the next one
 unfoldable pub names_rise : List Item → Bool
 names_rise [] = true
-names_rise (i ∷ []) = true
-names_rise (i ∷ j ∷ is) = is_before i.name j.name && names_rise (j ∷ is)
+names_rise (i ∷ is) = stands_before i is && names_rise is
 
 abbrev pub scope_fits : Scope → Bool
 scope_fits s = is_utf8 s.name && (is_utf8 s.module && (text_fits s.module_src && text_fits s.cell_src))

@@ -18,5 +18,3 @@ pub use laws::{length_of_run, one_valuation};
 pub use memory::{Mem, ReadPort, WritePort};
 pub use netlist::{By, Circuit, Drive, Net, Piece, Sig};
 pub use register::{Polarity, Reg, RegKind};
-
-ghost use Rattle.circuit.specs.Valid.{is_valid};

@@ -124,6 +124,9 @@ fn driver_fits(circuit: &Circuit, width: u32, by: &By) -> bool
 pub fn drive_fits(circuit: &Circuit, drive: &Drive) -> bool
     ensures { result ≡ drive_fits circuit.now drive.now }
 {
-    net_holds(circuit, drive.net, u64::from(drive.at) + u64::from(drive.width))
-        && driver_fits(circuit, drive.width, &drive.by)
+    net_holds(
+        circuit,
+        drive.net,
+        u64::from(drive.at) + u64::from(drive.width),
+    ) && driver_fits(circuit, drive.width, &drive.by)
 }
