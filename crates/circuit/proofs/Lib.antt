@@ -6,3 +6,5 @@ pub mod Length
 mod Multiples
 mod Texts
 mod Tested
+mod Slots
+mod Copies

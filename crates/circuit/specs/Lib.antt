@@ -6,3 +6,6 @@ pub mod Free
 pub mod Next
 pub mod Run
 pub mod Valid
+pub mod Slots
+pub mod Store
+pub mod Fault

@@ -4,17 +4,22 @@
 
 mod cell;
 mod diagnostic;
+mod fault;
 mod item;
 mod laws;
 mod memory;
 mod netlist;
 mod register;
+mod shape;
+mod store;
 mod validity;
 
 pub use cell::{Cell, Op};
 pub use diagnostic::{Diag, DiagKind, Trigger};
+pub use fault::{BitAt, DesignFault, DesignKind};
 pub use item::{Item, ItemKind, Scope};
 pub use laws::{length_of_run, one_valuation};
 pub use memory::{Mem, ReadPort, WritePort};
 pub use netlist::{By, Circuit, Drive, Net, Piece, Sig};
 pub use register::{Polarity, Reg, RegKind};
+pub use store::Store;
