@@ -1,19 +1,22 @@
 -- What is free, and that its digit stays.
 use Rattle.std.proofs.Common.{◌≡◌, ℕ, zero, suc, ◌+◌, ◌-◌, ◌<◌, List, [], ◌∷◌, refl, sym, ◌∙◌, ap, subst, arith, inl, inr, Bool, true, Option, Some, None}
-use Rattle.std.specs.Prelude.{slice_get}
+use Rattle.std.specs.Prelude.{slice_get, slice_index, cond, false, ◌&&◌, ◌||◌}
 use Rattle.std.specs.Int.{bit_at}
 use Rattle.std.proofs.lemmas.Bool.{cases_eq, false≢true, and_parts, and_from}
-use Rattle.circuit.specs.Signal.{Digits}
-use Rattle.circuit.specs.Valuation.{State, drive_of, cell_digit, given, driven, digit_within, IsValuation}
-use Rattle.circuit.specs.Free.{Test, all_below, sig_free, cell_free, by_free, drive_free, free_within}
+use Rattle.circuit.specs.Signal.{Digits, sig_number}
+use Rattle.circuit.specs.State.{State, Stored, row_at}
+use Rattle.circuit.specs.Valuation.{drive_of, port_digit, read_digit, cell_digit, given, driven, digit_within, IsValuation}
+use Rattle.circuit.specs.Free.{Test, all_below, sig_free, cell_free, port_free, read_free, by_free, drive_free, free_within}
 use Rattle.circuit.specs.declared.netlist.Circuit.{Circuit}
 use Rattle.circuit.specs.declared.netlist.Drive.{Drive}
-use Rattle.circuit.specs.declared.netlist.Cell.{Cell}
+use Rattle.circuit.specs.declared.cell.Cell.{Cell}
 use Rattle.circuit.specs.declared.netlist.By.{By}
 use Rattle.circuit.specs.declared.netlist.By.TheVariants as by
 use Rattle.circuit.specs.declared.netlist.Piece.{Piece}
 use Rattle.circuit.specs.declared.netlist.Piece.TheVariants as piece
-use Rattle.circuit.proofs.Same.{Reads, cell_same}
+use Rattle.circuit.specs.declared.memory.Mem.{Mem}
+use Rattle.circuit.specs.declared.memory.ReadPort.{ReadPort}
+use Rattle.circuit.proofs.Same.{Reads, sig_same, cell_same}
 
 all_at : (p : ℕ → Bool) (n : ℕ) → all_below p n ≡ true → (k : ℕ) → k < n → p k ≡ true
 unfolding all_below
@@ -49,13 +52,28 @@ sig_from free (piece.Part n at w ∷ ps) h =
     (all_from (λ j. free n (at + j)) w (λ k lt. h n (at + k) (inl (refl, omega arith, omega (arith, lt)))))
     (sig_from free ps (λ net bit r. h net bit (inr r)))
 
+sig_up : (f g : Test) → ((net bit : ℕ) → f net bit ≡ true → g net bit ≡ true) → (ps : List Piece) → sig_free f ps ≡ true → sig_free g ps ≡ true
+sig_up f g up ps h = sig_from g ps (λ net bit r. up net bit (sig_reads f ps h net bit r))
+
 pub cell_up : (f g : Test) → ((net bit : ℕ) → f net bit ≡ true → g net bit ≡ true) → (o : Option Cell) → cell_free f o ≡ true → cell_free g o ≡ true
 cell_up f g up None h = refl
 cell_up f g up (Some c) h =
-    let p = and_parts (sig_free f c.a) (sig_free f c.b) h in
-    and_from (sig_free g c.a) (sig_free g c.b)
-    (sig_from g c.a (λ net bit r. up net bit (sig_reads f c.a p.0 net bit r)))
-    (sig_from g c.b (λ net bit r. up net bit (sig_reads f c.b p.1 net bit r)))
+    let p = and_parts (sig_free f c.a) (sig_free f c.b && sig_free f c.s) h in
+    let q = and_parts (sig_free f c.b) (sig_free f c.s) p.1 in
+    and_from (sig_free g c.a) (sig_free g c.b && sig_free g c.s) (sig_up f g up c.a p.0)
+    (and_from (sig_free g c.b) (sig_free g c.s) (sig_up f g up c.b q.0) (sig_up f g up c.s q.1))
+
+port_up : (f g : Test) → ((net bit : ℕ) → f net bit ≡ true → g net bit ≡ true) → (o : Option ReadPort) → port_free f o ≡ true → port_free g o ≡ true
+port_up f g up None h = refl
+port_up f g up (Some p) h = by p.clocked h
+  where
+    by : (clocked : Bool) → (clocked || sig_free f p.addr) ≡ true → (clocked || sig_free g p.addr) ≡ true
+    by true e = refl
+    by false e = sig_up f g up p.addr e
+
+read_up : (f g : Test) → ((net bit : ℕ) → f net bit ≡ true → g net bit ≡ true) → (o : Option Mem) (n : ℕ) → read_free f o n ≡ true → read_free g o n ≡ true
+read_up f g up None n h = refl
+read_up f g up (Some m) n h = port_up f g up (slice_get m.reads n) h
 
 by_up : (c : Circuit) (f g : Test) → ((net bit : ℕ) → f net bit ≡ true → g net bit ≡ true) → (b : By) (i : ℕ) → by_free c f b i ≡ true → by_free c g b i ≡ true
 by_up c f g up (by.Const v) i h = h
@@ -63,6 +81,7 @@ by_up c f g up (by.Input n at) i h = h
 by_up c f g up (by.Wire n at) i h = up n (at + i) h
 by_up c f g up (by.Cell n at) i h = cell_up f g up (slice_get c.cells n) h
 by_up c f g up (by.Reg n at) i h = h
+by_up c f g up (by.Read m n at) i h = read_up f g up (slice_get c.mems m) n h
 
 pub drive_up : (c : Circuit) (f g : Test) → ((net bit : ℕ) → f net bit ≡ true → g net bit ≡ true) → (bit : ℕ) (m : Option Drive) → drive_free c f bit m ≡ true → drive_free c g bit m ≡ true
 drive_up c f g up bit None h = h
@@ -86,8 +105,26 @@ module _ (c : Circuit) (state : State) (inputs : List ℕ) (free : Test) (d e : 
   cell_stays : (o : Option Cell) → cell_free free o ≡ true → (i : ℕ) → cell_digit d o i ≡ cell_digit e o i
   cell_stays None h i = refl
   cell_stays (Some x) h i =
-      let p = and_parts (sig_free free x.a) (sig_free free x.b) h in
-      ap (λ n. bit_at n i) (cell_same x d e (λ net bit r. same net bit (elim r [ inl a ↦ sig_reads free x.a p.0 net bit a | inr b ↦ sig_reads free x.b p.1 net bit b ])))
+      let p = and_parts (sig_free free x.a) (sig_free free x.b && sig_free free x.s) h in
+      let q = and_parts (sig_free free x.b) (sig_free free x.s) p.1 in
+      ap (λ n. bit_at n i) (cell_same x d e (λ net bit r. same net bit (elim r [
+        | inl a ↦ sig_reads free x.a p.0 net bit a
+        | inr t ↦ elim t [ inl b ↦ sig_reads free x.b q.0 net bit b | inr s ↦ sig_reads free x.s q.1 net bit s ]
+      ])))
+
+  port_stays : (m : Mem) (kept : Stored) (n : ℕ) (o : Option ReadPort) → port_free free o ≡ true → (i : ℕ) → port_digit d m kept n o i ≡ port_digit e m kept n o i
+  port_stays m kept n None h i = refl
+  port_stays m kept n (Some p) h i = by p.clocked h
+    where
+      by : (clocked : Bool) → (clocked || sig_free free p.addr) ≡ true
+          → bit_at (cond clocked (slice_index kept.reads n) (row_at m kept.rows (sig_number d p.addr))) i ≡ bit_at (cond clocked (slice_index kept.reads n) (row_at m kept.rows (sig_number e p.addr))) i
+      by true t = refl
+      by false t = ap (λ a. bit_at (row_at m kept.rows a) i) (sig_same p.addr d e (λ net bit r. same net bit (sig_reads free p.addr t net bit r)))
+
+  read_stays : (o : Option Mem) (kept : Option Stored) (n : ℕ) → read_free free o n ≡ true → (i : ℕ) → read_digit d o kept n i ≡ read_digit e o kept n i
+  read_stays None kept n h i = refl
+  read_stays (Some m) None n h i = refl
+  read_stays (Some m) (Some kept) n h i = port_stays m kept n (slice_get m.reads n) h i
 
   given_stays : (b : By) (i : ℕ) → by_free c free b i ≡ true → given c state inputs d b i ≡ given c state inputs e b i
   given_stays (by.Const v) i h = refl
@@ -95,6 +132,7 @@ module _ (c : Circuit) (state : State) (inputs : List ℕ) (free : Test) (d e : 
   given_stays (by.Wire n at) i h = same n (at + i) h
   given_stays (by.Cell n at) i h = cell_stays (slice_get c.cells n) h (at + i)
   given_stays (by.Reg n at) i h = refl
+  given_stays (by.Read m n at) i h = read_stays (slice_get c.mems m) (slice_get state.mems m) n h (at + i)
 
   pub driven_stays : (bit : ℕ) (m : Option Drive) → drive_free c free bit m ≡ true → driven c state inputs d bit m ≡ driven c state inputs e bit m
   driven_stays bit None h = refl

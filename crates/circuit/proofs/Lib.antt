@@ -3,3 +3,8 @@ pub mod Freed
 pub mod Counting
 pub mod Listed
 pub mod Length
+mod Multiples
+mod Texts
+mod Tested
+mod Slots
+mod Copies

@@ -4,7 +4,8 @@ use Rattle.std.specs.Prelude.{find, slice_get}
 use Rattle.std.proofs.lemmas.Bool.{cases_eq, cases_Bool, and_parts, eqb-true, ltb-true, cond-true, cond-false}
 use Rattle.std.proofs.lemmas.List.Sums.{sum_by-cons}
 use Rattle.circuit.specs.Signal.{Digits}
-use Rattle.circuit.specs.Valuation.{State, covers, drive_of, driven, given, bits_of, digit_at, IsValuation}
+use Rattle.circuit.specs.State.{State}
+use Rattle.circuit.specs.Valuation.{covers, drive_of, driven, given, bits_of, digit_at, IsValuation}
 use Rattle.circuit.specs.Free.{free_within, drive_free, AreDrivesInside, IsInOrder}
 use Rattle.circuit.specs.declared.netlist.Circuit.{Circuit}
 use Rattle.circuit.specs.declared.netlist.Drive.{Drive}

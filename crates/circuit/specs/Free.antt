@@ -1,10 +1,12 @@
 -- The bits that depend on no cycle, and circuits in order.
-use Rattle.std.specs.Prelude.{◌≡◌, ℕ, zero, suc, ◌+◌, ◌-◌, ◌≤◌, List, [], ◌∷◌, Bool, true, false, ◌&&◌, Option, Some, None, slice_get}
+use Rattle.std.specs.Prelude.{◌≡◌, ℕ, zero, suc, ◌+◌, ◌-◌, ◌≤◌, List, [], ◌∷◌, Bool, true, false, ◌&&◌, ◌||◌, Option, Some, None, slice_get}
 use Rattle.circuit.specs.Valuation.{covers, drive_of}
 use Rattle.circuit.specs.declared.netlist.Circuit.{Circuit}
 use Rattle.circuit.specs.declared.netlist.Drive.{Drive}
 use Rattle.circuit.specs.declared.netlist.Net.{Net}
-use Rattle.circuit.specs.declared.netlist.Cell.{Cell}
+use Rattle.circuit.specs.declared.cell.Cell.{Cell}
+use Rattle.circuit.specs.declared.memory.Mem.{Mem}
+use Rattle.circuit.specs.declared.memory.ReadPort.{ReadPort}
 use Rattle.circuit.specs.declared.netlist.By.{By}
 use Rattle.circuit.specs.declared.netlist.By.TheVariants as by
 use Rattle.circuit.specs.declared.netlist.Piece.{Piece}
@@ -24,15 +26,25 @@ sig_free free (piece.Part n at width ∷ ps) = all_below (λ j. free n (at + j))
 
 abbrev pub cell_free : Test → Option Cell → Bool
 cell_free free None = true
-cell_free free (Some c) = sig_free free c.a && sig_free free c.b
+cell_free free (Some c) = sig_free free c.a && (sig_free free c.b && sig_free free c.s)
 
--- a constant, an input and a register depend on nothing, an output bit of a cell on every bit of its inputs
+abbrev pub port_free : Test → Option ReadPort → Bool
+port_free free None = true
+port_free free (Some p) = p.clocked || sig_free free p.addr
+
+abbrev pub read_free : Test → Option Mem → ℕ → Bool
+read_free free None n = true
+read_free free (Some m) n = port_free free (slice_get m.reads n)
+
+-- a constant, an input, a register and a read port with a clock depend on nothing, an output bit of a cell on every bit
+-- of its inputs, a bit of a read port without a clock on every bit of its address
 abbrev pub by_free : Circuit → Test → By → ℕ → Bool
 by_free c free (by.Const v) i = true
 by_free c free (by.Input n at) i = true
 by_free c free (by.Wire n at) i = free n (at + i)
 by_free c free (by.Cell n at) i = cell_free free (slice_get c.cells n)
 by_free c free (by.Reg n at) i = true
+by_free c free (by.Read m n at) i = read_free free (slice_get c.mems m) n
 
 abbrev pub drive_free : Circuit → Test → ℕ → Option Drive → Bool
 drive_free c free bit None = true

@@ -1,6 +1,11 @@
 pub mod Signal
+pub mod State
 pub mod Output
 pub mod Valuation
 pub mod Free
 pub mod Next
 pub mod Run
+pub mod Valid
+pub mod Slots
+pub mod Store
+pub mod Fault

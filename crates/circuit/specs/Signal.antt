@@ -1,6 +1,7 @@
 -- The number that a signal has under a valuation of the nets.
 use Rattle.std.specs.Prelude.{ℕ, zero, suc, ◌+◌, ◌*◌, ◌^◌, List, [], ◌∷◌, sum_by, slice_index}
 use Rattle.std.specs.Int.{bit_at}
+use Rattle.sim_base.specs.BitValue.{BitValue, bit_value}
 use Rattle.circuit.specs.declared.netlist.Piece.{Piece}
 use Rattle.circuit.specs.declared.netlist.Piece.TheVariants as piece
 
@@ -32,3 +33,7 @@ sig_width pieces = sum_by piece_width pieces
 unfoldable pub sig_number : Digits → List Piece → ℕ
 sig_number digits [] = 0
 sig_number digits (p ∷ ps) = sig_number digits ps * 2 ^ piece_width p + piece_number digits p
+
+-- the width of a signal, and its number
+abbrev pub sig_value : Digits → List Piece → BitValue
+sig_value digits pieces = bit_value (sig_width pieces) (sig_number digits pieces)

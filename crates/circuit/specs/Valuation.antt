@@ -1,18 +1,17 @@
 -- The value of each bit of each net, from a state and the inputs.
-use Rattle.std.specs.Prelude.{◌≡◌, ℕ, zero, suc, ◌+◌, ◌-◌, List, [], ◌∷◌, Bool, ◌&&◌, nat_eq, nat_le, nat_lt, Option, Some, None, find, slice_get, slice_index, sum_by}
+use Rattle.std.specs.Prelude.{◌≡◌, ℕ, zero, suc, ◌+◌, ◌-◌, List, [], ◌∷◌, Bool, ◌&&◌, nat_eq, nat_le, nat_lt, Option, Some, None, find, slice_get, slice_index, sum_by, if◌then◌else◌}
 use Rattle.std.specs.Int.{bit_at}
-use Rattle.circuit.specs.Signal.{Digits, gathered}
+use Rattle.circuit.specs.Signal.{Digits, gathered, sig_number}
+use Rattle.circuit.specs.State.{State, Stored, row_at}
 use Rattle.circuit.specs.Output.{output}
 use Rattle.circuit.specs.declared.netlist.Circuit.{Circuit}
 use Rattle.circuit.specs.declared.netlist.Net.{Net}
 use Rattle.circuit.specs.declared.netlist.Drive.{Drive}
-use Rattle.circuit.specs.declared.netlist.Cell.{Cell}
+use Rattle.circuit.specs.declared.cell.Cell.{Cell}
+use Rattle.circuit.specs.declared.memory.Mem.{Mem}
+use Rattle.circuit.specs.declared.memory.ReadPort.{ReadPort}
 use Rattle.circuit.specs.declared.netlist.By.{By}
 use Rattle.circuit.specs.declared.netlist.By.TheVariants as by
-
--- what a circuit keeps from round to round: the number of each register
-pub record State : Type 0 where
-  pub regs : List ℕ
 
 abbrev pub covers : ℕ → ℕ → Drive → Bool
 covers net bit d = nat_eq d.net net && (nat_le d.at bit && nat_lt bit (d.at + d.width))
@@ -25,6 +24,18 @@ abbrev pub cell_digit : Digits → Option Cell → ℕ → ℕ
 cell_digit digits None i = 0
 cell_digit digits (Some c) i = bit_at (output digits c) i
 
+-- the number of a read port: of one without a clock its row, of one with a clock what it keeps
+abbrev pub port_number : Digits → Mem → Stored → ℕ → ReadPort → ℕ
+port_number digits m kept n p = if p.clocked then slice_index kept.reads n else row_at m kept.rows (sig_number digits p.addr)
+
+abbrev pub port_digit : Digits → Mem → Stored → ℕ → Option ReadPort → ℕ → ℕ
+port_digit digits m kept n None i = 0
+port_digit digits m kept n (Some p) i = bit_at (port_number digits m kept n p) i
+
+abbrev pub read_digit : Digits → Option Mem → Option Stored → ℕ → ℕ → ℕ
+read_digit digits (Some m) (Some kept) n i = port_digit digits m kept n (slice_get m.reads n) i
+read_digit digits _ _ n i = 0
+
 -- the digit that a driver gives at its i-th bit
 abbrev pub given : Circuit → State → List ℕ → Digits → By → ℕ → ℕ
 given c state inputs digits (by.Const v) i = bit_at v.number i
@@ -32,6 +43,7 @@ given c state inputs digits (by.Input n at) i = bit_at (slice_index inputs n) (a
 given c state inputs digits (by.Wire n at) i = digits n (at + i)
 given c state inputs digits (by.Cell n at) i = cell_digit digits (slice_get c.cells n) (at + i)
 given c state inputs digits (by.Reg n at) i = bit_at (slice_index state.regs n) (at + i)
+given c state inputs digits (by.Read m n at) i = read_digit digits (slice_get c.mems m) (slice_get state.mems m) n (at + i)
 
 -- a bit without a driver is 0
 abbrev pub driven : Circuit → State → List ℕ → Digits → ℕ → Option Drive → ℕ

@@ -1,7 +1,8 @@
 //! Laws of the meaning of circuits.
 ghost use Rattle.std.specs.Prelude.{◌≡◌, ◌≤◌, ◌<◌, ℕ, ◌-◌, List, true, Some, None, is_some, slice_get};
 ghost use Rattle.circuit.specs.Signal.{Digits};
-ghost use Rattle.circuit.specs.Valuation.{State, IsValuation, covers, digit_at, given};
+ghost use Rattle.circuit.specs.State.{State};
+ghost use Rattle.circuit.specs.Valuation.{IsValuation, covers, digit_at, given};
 ghost use Rattle.circuit.specs.Run.{Run, run_length, standing_after, standing_at};
 ghost use Rattle.circuit.specs.Free.{IsInOrder};
 ghost use Rattle.circuit.specs.declared.netlist.Drive.{Drive};

@@ -2,10 +2,24 @@
 //! and scopes, and the value of every bit after every sample.
 #![tactic(auto)]
 
+mod cell;
+mod diagnostic;
+mod fault;
+mod item;
 mod laws;
+mod memory;
 mod netlist;
+mod register;
+mod shape;
+mod store;
+mod validity;
 
+pub use cell::{Cell, Op};
+pub use diagnostic::{Diag, DiagKind, Trigger};
+pub use fault::{BitAt, DesignFault, DesignKind};
+pub use item::{Item, ItemKind, Scope};
 pub use laws::{length_of_run, one_valuation};
-pub use netlist::{
-    By, Cell, Circuit, Drive, Item, ItemKind, Net, Op, Piece, Polarity, Reg, RegKind, Scope, Sig,
-};
+pub use memory::{Mem, ReadPort, WritePort};
+pub use netlist::{By, Circuit, Drive, Net, Piece, Sig};
+pub use register::{Polarity, Reg, RegKind};
+pub use store::Store;

@@ -1,0 +1,106 @@
+//! The numbers of a circuit's parts in a round.
+ghost use Rattle.std.specs.Prelude.{◌≡◌, IfOk, map};
+ghost use Rattle.sim_base.specs.BitValue.{zeros};
+ghost use Rattle.circuit.specs.Store.{start_read, start_store};
+
+use crate::cell::Cell;
+use crate::memory::{Mem, ReadPort};
+use crate::netlist::{Circuit, Net};
+use crate::register::Reg;
+use sim_base::{Bits, NoMemory};
+use sqlite_items::Items;
+use std::alloc::Global;
+
+/// The value of each part of a circuit, in the circuit's order.
+#[derive(Debug, Drop)]
+pub struct Store {
+    pub nets: Items<Bits>,
+    /// The outputs of the combinational cells.
+    pub cells: Items<Bits>,
+    pub regs: Items<Bits>,
+    /// For each memory the value of each of its read ports.
+    pub reads: Items<Items<Bits>>,
+}
+
+impl Store {
+    /// The start values of registers and of read ports with a clock, and 0 for all else.
+    pub fn new(alloc: Global, circuit: &Circuit) -> Result<Store, NoMemory>
+        ensures { IfOk result (λ store. store ≡ start_store circuit.now) }
+    {
+        Ok(Store {
+            nets: start_nets(alloc, circuit.nets.as_slice())?,
+            cells: start_cells(alloc, circuit.cells.as_slice())?,
+            regs: start_regs(alloc, circuit.regs.as_slice())?,
+            reads: start_mems(alloc, circuit.mems.as_slice())?,
+        })
+    }
+}
+
+fn copy_of_bits(alloc: Global, bits: &Bits) -> Result<Bits, NoMemory>
+    ensures { IfOk result (λ copy. copy ≡ bits.now) }
+{
+    let width = bits.width();
+    let mut copy = Bits::zero(alloc, width)?;
+    copy.copy(0, bits, 0, width);
+    Ok(copy)
+}
+
+fn start_nets(alloc: Global, nets: &[Net]) -> Result<Items<Bits>, NoMemory>
+    ensures { IfOk result (λ values. values ≡ map (λ n. zeros n.width) nets.now) }
+{
+    let mut values = Items::new(alloc);
+    for net in nets {
+        values.push(Bits::zero(alloc, net.width)?)?;
+    }
+    Ok(values)
+}
+
+fn start_cells(alloc: Global, cells: &[Cell]) -> Result<Items<Bits>, NoMemory>
+    ensures { IfOk result (λ values. values ≡ map (λ x. zeros x.width) cells.now) }
+{
+    let mut values = Items::new(alloc);
+    for cell in cells {
+        values.push(Bits::zero(alloc, cell.width)?)?;
+    }
+    Ok(values)
+}
+
+fn start_regs(alloc: Global, regs: &[Reg]) -> Result<Items<Bits>, NoMemory>
+    ensures { IfOk result (λ values. values ≡ map (λ r. r.init) regs.now) }
+{
+    let mut values = Items::new(alloc);
+    for reg in regs {
+        values.push(copy_of_bits(alloc, &reg.init)?)?;
+    }
+    Ok(values)
+}
+
+fn start_read(alloc: Global, mem: &Mem, port: &ReadPort) -> Result<Bits, NoMemory>
+    ensures { IfOk result (λ value. value ≡ start_read mem.now port.now) }
+{
+    if port.clocked {
+        copy_of_bits(alloc, &port.init)
+    } else {
+        Bits::zero(alloc, mem.width)
+    }
+}
+
+fn start_reads(alloc: Global, mem: &Mem) -> Result<Items<Bits>, NoMemory>
+    ensures { IfOk result (λ values. values ≡ map (start_read mem.now) mem.now.reads) }
+{
+    let mut values = Items::new(alloc);
+    for port in mem.reads.as_slice() {
+        values.push(start_read(alloc, mem, port)?)?;
+    }
+    Ok(values)
+}
+
+fn start_mems(alloc: Global, mems: &[Mem]) -> Result<Items<Items<Bits>>, NoMemory>
+    ensures { IfOk result (λ values. values ≡ map (λ m. map (start_read m) m.reads) mems.now) }
+{
+    let mut values = Items::new(alloc);
+    for mem in mems {
+        values.push(start_reads(alloc, mem)?)?;
+    }
+    Ok(values)
+}

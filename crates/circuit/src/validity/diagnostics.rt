@@ -1,0 +1,36 @@
+//! Diagnostics.
+ghost use Rattle.std.specs.Prelude.{◌≡◌, Some};
+ghost use Rattle.circuit.specs.Valid.{trigger_fits, diag_fits};
+
+use crate::diagnostic::{Diag, Trigger};
+use crate::netlist::Circuit;
+use crate::validity::items::{is_utf8, text_fits};
+use crate::validity::memories::is_countable;
+use crate::validity::signals::{sig_fits, sig_of, sig_width};
+
+fn is_trigger(circuit: &Circuit, trigger: &Trigger) -> bool
+    ensures { result ≡ trigger_fits circuit.now (Some trigger.now) }
+{
+    let on = trigger.on.as_slice();
+    sig_fits(circuit, on) && trigger.rising.len() == sig_width(on) as usize
+}
+
+fn trigger_fits(circuit: &Circuit, trigger: &Option<Trigger>) -> bool
+    ensures { result ≡ trigger_fits circuit.now trigger.now }
+{
+    match trigger {
+        Some(trigger) => is_trigger(circuit, trigger),
+        None => true,
+    }
+}
+
+/// Whether the signals of a diagnostic have their widths, and its texts are UTF-8.
+pub fn diag_fits(circuit: &Circuit, diag: &Diag) -> bool
+    ensures { result ≡ diag_fits circuit.now diag.now }
+{
+    sig_of(circuit, 1, diag.a.as_slice())
+        && (sig_of(circuit, 1, diag.en.as_slice())
+            && (trigger_fits(circuit, &diag.trigger)
+                && (is_countable(diag.text.len())
+                    && (is_utf8(&diag.text) && text_fits(&diag.src)))))
+}
