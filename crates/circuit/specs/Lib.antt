@@ -6,3 +6,4 @@ pub mod Free
 pub mod Next
 pub mod Run
 pub mod Valid
+pub mod Worked

@@ -9,6 +9,9 @@ mod laws;
 mod memory;
 mod netlist;
 mod register;
+mod worked;
+
+ghost use Rattle.circuit.specs.Valid.{is_valid};
 
 pub use cell::{Cell, Op};
 pub use diagnostic::{Diag, DiagKind, Trigger};
@@ -17,5 +20,4 @@ pub use laws::{length_of_run, one_valuation};
 pub use memory::{Mem, ReadPort, WritePort};
 pub use netlist::{By, Circuit, Drive, Net, Piece, Sig};
 pub use register::{Polarity, Reg, RegKind};
-
-ghost use Rattle.circuit.specs.Valid.{is_valid};
+pub use worked::{worked_arithmetic, worked_registers, worked_runs, worked_selections};
