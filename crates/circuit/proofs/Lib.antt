@@ -3,3 +3,6 @@ pub mod Freed
 pub mod Counting
 pub mod Listed
 pub mod Length
+mod Gathered
+mod Still
+mod Widths
