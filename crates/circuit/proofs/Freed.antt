@@ -3,7 +3,7 @@ use Rattle.std.proofs.Common.{◌≡◌, ℕ, zero, suc, ◌+◌, ◌-◌, ◌<�
 use Rattle.std.specs.Prelude.{slice_get, slice_index, cond, false, ◌&&◌, ◌||◌}
 use Rattle.std.specs.Int.{bit_at}
 use Rattle.std.proofs.lemmas.Bool.{cases_eq, false≢true, and_parts, and_from}
-use Rattle.circuit.specs.Signal.{Digits, sig_number}
+use Rattle.circuit.specs.Signal.{Digits, Reads, sig_number}
 use Rattle.circuit.specs.State.{State, Stored, row_at}
 use Rattle.circuit.specs.Valuation.{drive_of, port_digit, read_digit, cell_digit, given, driven, digit_within, IsValuation}
 use Rattle.circuit.specs.Free.{Test, all_below, sig_free, cell_free, port_free, read_free, by_free, drive_free, free_within}
@@ -16,7 +16,7 @@ use Rattle.circuit.specs.declared.netlist.Piece.{Piece}
 use Rattle.circuit.specs.declared.netlist.Piece.TheVariants as piece
 use Rattle.circuit.specs.declared.memory.Mem.{Mem}
 use Rattle.circuit.specs.declared.memory.ReadPort.{ReadPort}
-use Rattle.circuit.proofs.Same.{Reads, sig_same, cell_same}
+use Rattle.circuit.proofs.Same.{sig_same, cell_same}
 
 all_at : (p : ℕ → Bool) (n : ℕ) → all_below p n ≡ true → (k : ℕ) → k < n → p k ≡ true
 unfolding all_below

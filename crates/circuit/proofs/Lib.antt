@@ -8,3 +8,6 @@ mod Texts
 mod Tested
 mod Slots
 mod Copies
+mod Gathered
+mod Still
+mod Widths

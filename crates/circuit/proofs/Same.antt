@@ -1,19 +1,13 @@
 -- A signal and a cell depend on nothing but the bits that they read.
-use Rattle.std.proofs.Common.{◌≡◌, ℕ, zero, suc, ◌+◌, ◌*◌, ◌^◌, ◌<◌, ◌≤◌, ◌⊎◌, List, [], ◌∷◌, refl, ap, ◌∙◌, arith, inl, inr}
-use Rattle.circuit.specs.Signal.{Digits, gathered, sig_number, sig_width}
+use Rattle.std.proofs.Common.{◌≡◌, ℕ, zero, suc, ◌+◌, ◌*◌, ◌^◌, ◌<◌, ◌⊎◌, List, [], ◌∷◌, refl, ap, ◌∙◌, arith, inl, inr}
+use Rattle.circuit.specs.Signal.{Digits, Reads, gathered, sig_number, sig_width}
 use Rattle.sim_base.specs.BitValue.{bit_value}
 use Rattle.circuit.specs.Output.{Inputs, modulo, formula, output}
 use Rattle.circuit.specs.declared.cell.Cell.{Cell}
 use Rattle.circuit.specs.declared.netlist.Piece.{Piece}
 use Rattle.circuit.specs.declared.netlist.Piece.TheVariants as piece
 
--- a signal reads a bit
-unfoldable pub Reads : List Piece → ℕ → ℕ → Type 0
-Reads [] net bit = ⊥
-Reads (piece.Const v ∷ ps) net bit = Reads ps net bit
-Reads (piece.Part n at width ∷ ps) net bit = ((n ≡ net) × (at ≤ bit) × (bit < at + width)) ⊎ Reads ps net bit
-
-gathered_same : (w : ℕ) (d e : ℕ → ℕ) → ((j : ℕ) → j < w → d j ≡ e j) → gathered d w ≡ gathered e w
+pub gathered_same : (w : ℕ) (d e : ℕ → ℕ) → ((j : ℕ) → j < w → d j ≡ e j) → gathered d w ≡ gathered e w
 unfolding gathered
 gathered_same zero d e h = refl
 gathered_same (suc w) d e h =

@@ -9,3 +9,4 @@ pub mod Valid
 pub mod Slots
 pub mod Store
 pub mod Fault
+pub mod Worked

@@ -1,8 +1,8 @@
 -- What a combinational cell computes: the cell library of the Yosys manual.
-use Rattle.std.specs.Prelude.{ℕ, zero, suc, ◌+◌, ◌-◌, ◌*◌, ◌/◌, ◌%◌, ◌^◌, ◌==◌, max, ℤ, pos, negsuc, ◌+ℤ◌, ◌-ℤ◌, ◌*ℤ◌, neg_ℤ, int_lt, int_le, bit_and, bit_or, bit_xor, Bool, not, ◌&&◌, ◌||◌, if◌then◌else◌}
+use Rattle.std.specs.Prelude.{◌⊎◌, ℕ, zero, suc, ◌+◌, ◌-◌, ◌*◌, ◌/◌, ◌%◌, ◌^◌, ◌==◌, max, ℤ, pos, negsuc, ◌+ℤ◌, ◌-ℤ◌, ◌*ℤ◌, neg_ℤ, int_lt, int_le, bit_and, bit_or, bit_xor, Bool, not, ◌&&◌, ◌||◌, if◌then◌else◌}
 use Rattle.std.specs.Int.{bit_at}
 use Rattle.sim_base.specs.BitValue.{BitValue}
-use Rattle.circuit.specs.Signal.{Digits, gathered, sig_value}
+use Rattle.circuit.specs.Signal.{Digits, Reads, gathered, sig_value}
 use Rattle.circuit.specs.declared.cell.Cell.{Cell}
 use Rattle.circuit.specs.declared.cell.Op.{Op}
 use Rattle.circuit.specs.declared.cell.Op.TheVariants as op
@@ -173,3 +173,7 @@ inputs_of digits c = record {
 -- the number that a cell gives
 abbrev pub output : Digits → Cell → ℕ
 output digits c = modulo c.width (formula c.op (inputs_of digits c))
+
+-- a cell reads a bit
+abbrev pub ReadsBit : Cell → ℕ → ℕ → Type 0
+ReadsBit c net bit = Reads c.a net bit ⊎ (Reads c.b net bit ⊎ Reads c.s net bit)

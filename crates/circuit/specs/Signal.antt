@@ -1,5 +1,5 @@
 -- The number that a signal has under a valuation of the nets.
-use Rattle.std.specs.Prelude.{ℕ, zero, suc, ◌+◌, ◌*◌, ◌^◌, List, [], ◌∷◌, sum_by, slice_index}
+use Rattle.std.specs.Prelude.{◌≡◌, ℕ, zero, suc, ◌+◌, ◌*◌, ◌^◌, ◌<◌, ◌≤◌, ◌⊎◌, List, [], ◌∷◌, sum_by, slice_index}
 use Rattle.std.specs.Int.{bit_at}
 use Rattle.sim_base.specs.BitValue.{BitValue, bit_value}
 use Rattle.circuit.specs.declared.netlist.Piece.{Piece}
@@ -37,3 +37,9 @@ sig_number digits (p ∷ ps) = sig_number digits ps * 2 ^ piece_width p + piece_
 -- the width of a signal, and its number
 abbrev pub sig_value : Digits → List Piece → BitValue
 sig_value digits pieces = bit_value (sig_width pieces) (sig_number digits pieces)
+
+-- a signal reads a bit
+unfoldable pub Reads : List Piece → ℕ → ℕ → Type 0
+Reads [] net bit = ⊥
+Reads (piece.Const v ∷ ps) net bit = Reads ps net bit
+Reads (piece.Part n at width ∷ ps) net bit = ((n ≡ net) × (at ≤ bit) × (bit < at + width)) ⊎ Reads ps net bit

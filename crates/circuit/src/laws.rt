@@ -1,9 +1,14 @@
 //! Laws of the meaning of circuits.
-ghost use Rattle.std.specs.Prelude.{◌≡◌, ◌≤◌, ◌<◌, ℕ, ◌-◌, List, true, Some, None, is_some, slice_get};
+ghost use Rattle.std.specs.Prelude.{◌≡◌, ◌≤◌, ◌<◌, ℕ, ◌-◌, List, true, Some, None, is_some, slice_get, slice_index, ◌^◌};
 ghost use Rattle.circuit.specs.Signal.{Digits};
-ghost use Rattle.circuit.specs.State.{State};
-ghost use Rattle.circuit.specs.Valuation.{IsValuation, covers, digit_at, given};
-ghost use Rattle.circuit.specs.Run.{Run, run_length, standing_after, standing_at};
+ghost use Rattle.circuit.specs.Output.{ReadsBit, output};
+ghost use Rattle.circuit.specs.Next.{next};
+ghost use Rattle.circuit.specs.declared.cell.Cell.{Cell};
+ghost use Rattle.circuit.specs.declared.netlist.Circuit.{Circuit};
+ghost use Rattle.circuit.specs.declared.netlist.Net.{Net};
+ghost use Rattle.circuit.specs.State.{State, same_state};
+ghost use Rattle.circuit.specs.Valuation.{IsValuation, valuation, covers, digit_at, given};
+ghost use Rattle.circuit.specs.Run.{Run, Standing, run_length, settled, standing_after, standing_at};
 ghost use Rattle.circuit.specs.Free.{IsInOrder};
 ghost use Rattle.circuit.specs.declared.netlist.Drive.{Drive};
 
@@ -29,4 +34,21 @@ pub fn length_of_run()
     ensures settled { (run : Run) (k : ℕ) → k < run_length run → is_some (standing_at run k) ≡ true }
     ensures unsettled { (run : Run) → run_length run < run.count → standing_at run (run_length run) ≡ None }
     ensures only { (run : Run) (k : ℕ) → k ≤ run.count → is_some (standing_after run k) ≡ true → (k < run.count → standing_at run k ≡ None) → run_length run ≡ k }
+{}
+
+/// What a sample leaves stands still: the nets have the values of its state, and a further round under the
+/// same inputs changes nothing.
+pub fn law_of_settling()
+    ensures nets { (c : Circuit) (s t : Standing) (inputs : List ℕ) → settled c s inputs ≡ Some t → t.nets ≡ valuation c t.state inputs }
+    ensures still { (c : Circuit) (s t : Standing) (inputs : List ℕ) → settled c s inputs ≡ Some t → same_state (next c t.state t.nets t.nets) t.state ≡ true }
+{}
+
+/// The output of a cell depends on nothing but the bits that it reads.
+pub fn law_of_reading()
+    ensures { (cell : Cell) (one other : Digits) → ((net bit : ℕ) → ReadsBit cell net bit → one net bit ≡ other net bit) → output one cell ≡ output other cell }
+{}
+
+/// Each net has a value of its width.
+pub fn law_of_widths()
+    ensures { (c : Circuit) (state : State) (inputs : List ℕ) (n : ℕ) (x : Net) → slice_get c.nets n ≡ Some x → slice_index (valuation c state inputs) n < 2 ^ x.width }
 {}

@@ -13,13 +13,15 @@ mod register;
 mod shape;
 mod store;
 mod validity;
+mod worked;
 
 pub use cell::{Cell, Op};
 pub use diagnostic::{Diag, DiagKind, Trigger};
 pub use fault::{BitAt, DesignFault, DesignKind};
 pub use item::{Item, ItemKind, Scope};
-pub use laws::{length_of_run, one_valuation};
+pub use laws::{law_of_reading, law_of_settling, law_of_widths, length_of_run, one_valuation};
 pub use memory::{Mem, ReadPort, WritePort};
 pub use netlist::{By, Circuit, Drive, Net, Piece, Sig};
 pub use register::{Polarity, Reg, RegKind};
 pub use store::Store;
+pub use worked::{worked_arithmetic, worked_registers, worked_runs, worked_selections};
