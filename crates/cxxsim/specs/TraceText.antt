@@ -3,16 +3,17 @@ use Rattle.std.specs.Prelude.{ℕ, zero, suc, ◌+◌, ◌/◌, List, [], ◌∷
 use Rattle.std.specs.List.{flat_map}
 use Rattle.sim_base.specs.Digits.{lowest_digits}
 use Rattle.sim_base.specs.TimeText.{time_text}
-use Rattle.circuit.specs.Run.{Run, item_number, run_length, shown}
+use Rattle.circuit.specs.Run.{Run, Standing, item_number, run_length, shown}
 use Rattle.circuit.specs.declared.netlist.Circuit.{Circuit}
-use Rattle.circuit.specs.declared.netlist.Item.{Item}
-use Rattle.circuit.specs.declared.netlist.ItemKind.{ItemKind}
-use Rattle.circuit.specs.declared.netlist.ItemKind.TheVariants as item
+use Rattle.circuit.specs.declared.item.Item.{Item}
+use Rattle.circuit.specs.declared.item.ItemKind.{ItemKind}
+use Rattle.circuit.specs.declared.item.ItemKind.TheVariants as item
 use Rattle.flat_design.specs.Flat.{width_of}
 
--- the width of a node in bits
+-- the width of a node in bits; a memory, which a flat circuit has not, has none
 abbrev pub kind_width : Circuit → ItemKind → ℕ
 kind_width c (item.Node net lsb_at input output) = width_of (slice_get c.nets net)
+kind_width c (item.Memory m) = 0
 
 abbrev pub item_width : Circuit → Item → ℕ
 item_width c i = kind_width c i.kind
@@ -28,9 +29,9 @@ header c = codes "items " ++ decimal (length c.items) ++ 10 ∷ [] ++ flat_map (
 abbrev pub value_text : ℕ → ℕ → List ℕ
 value_text width number = 32 ∷ lowest_digits 16 (max 1 ((width + 3) / 4)) number
 
--- the values of all items, from the numbers of the nets
-abbrev pub values_text : Circuit → List ℕ → List ℕ
-values_text c nets = flat_map (λ i. value_text (item_width c i) (item_number nets i.kind)) c.items
+-- the values of all items, from how the circuit stands
+abbrev pub values_text : Circuit → Standing → List ℕ
+values_text c s = flat_map (λ i. value_text (item_width c i) (item_number s i.kind 0)) c.items
 
 abbrev pub item_value_text : Run → ℕ → Item → List ℕ
 item_value_text run k i = value_text (item_width run.circuit i) (shown run k i.first_slot)

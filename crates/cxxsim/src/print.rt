@@ -1,7 +1,6 @@
 //! The lines of a trace, in a buffer.
 ghost use Rattle.std.specs.Prelude.{◌≡◌, ℕ, ◌<◌, ◌≤◌, ◌++◌, List, Some, decimal, length, slice_get, slice_index, OnOk};
-ghost use Rattle.circuit.specs.Run.{Run, item_number, standing_at};
-ghost use Rattle.circuit.specs.declared.netlist.Circuit.{Circuit};
+ghost use Rattle.circuit.specs.Run.{Run, Standing, item_number, standing_at};
 ghost use Rattle.flat_design.specs.Flat.{IsFlat, IsNodeOf, width_of};
 ghost use Rattle.flat_rounds.specs.Fits.{IsStandingOf};
 ghost use Rattle.sim_base.specs.TimeText.{time_text};
@@ -48,14 +47,17 @@ fn push_value(text: &mut Vec<u8>, width: u32, number: u64) -> Result<(), NoMemor
     Ok(())
 }
 
-/// The net of a node.
-fn net_of(item: &Item) -> u32
-    ensures there { (c : Circuit) → IsNodeOf c item.now.kind → result < length c.nets }
-    ensures number { (nets : List ℕ) → item_number nets item.now.kind ≡ slice_index nets result }
-    ensures width { (c : Circuit) → kind_width c item.now.kind ≡ width_of (slice_get c.nets result) }
+/// The net of a node of the circuit.
+fn net_of(circuit: &Circuit, item: &Item) -> u32
+    requires { IsNodeOf circuit.now item.now.kind }
+    ensures there { result < length circuit.now.nets }
+    ensures number { (s : Standing) → item_number s item.now.kind 0 ≡ slice_index s.nets result }
+    ensures width { kind_width circuit.now item.now.kind ≡ width_of (slice_get circuit.now.nets result) }
 {
+    let _ = circuit;
     match item.kind {
         ItemKind::Node { net, .. } => net,
+        ItemKind::Memory { .. } => 0,
     }
 }
 
@@ -66,7 +68,7 @@ fn width_of_node(circuit: &Circuit, item: &Item) -> u32
     ensures value { result ≡ item_width circuit.now item.now }
     ensures word { result ≤ 64 }
 {
-    let net = net_of(item);
+    let net = net_of(circuit, item);
     circuit.nets.as_slice()[net as usize].width
 }
 
@@ -101,10 +103,14 @@ pub fn push_header(text: &mut Vec<u8>, circuit: &Circuit) -> Result<(), NoMemory
 fn push_values(text: &mut Vec<u8>, circuit: &Circuit, rounds: &Rounds) -> Result<(), NoMemory>
     requires flat { IsFlat circuit.now }
     requires fits { IsStandingOf circuit.now rounds.now }
-    ensures { OnOk result (text.new.items ≡ text.old.items ++ values_text circuit.now rounds.now.nets) }
+    ensures { OnOk result (text.new.items ≡ text.old.items ++ values_text circuit.now rounds.now) }
 {
     for item in circuit.items.as_slice() {
-        push_value(text, width_of_node(circuit, item), rounds.net(net_of(item)))?;
+        push_value(
+            text,
+            width_of_node(circuit, item),
+            rounds.net(net_of(circuit, item)),
+        )?;
     }
     Ok(())
 }

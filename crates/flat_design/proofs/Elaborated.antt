@@ -2,7 +2,7 @@
 use Rattle.std.proofs.Common.{◌≡◌, ◌+◌, ◌≤◌, ◌^◌, List, length, refl, sym, ◌∙◌, ap, arith, true, false, leb, ◌&&◌, Some, None, option_map}
 use Rattle.std.proofs.lemmas.Bool.{cond-true, cond-false, and_parts, leb-true}
 use Rattle.circuit.specs.declared.netlist.Circuit.{Circuit}
-use Rattle.circuit.specs.declared.netlist.Item.{Item}
+use Rattle.circuit.specs.declared.item.Item.{Item}
 use Rattle.flat_text.specs.declared.module.Module.{Module}
 use Rattle.flat_text.specs.declared.module.Wire.{Wire}
 use Rattle.flat_text.specs.declared.module.Cell.{Cell}

@@ -23,9 +23,9 @@ use Rattle.circuit.specs.declared.netlist.Circuit.{Circuit}
 use Rattle.circuit.specs.declared.netlist.Net.{Net}
 use Rattle.circuit.specs.declared.netlist.Drive.{Drive}
 use Rattle.circuit.specs.declared.netlist.By.TheVariants as by
-use Rattle.circuit.specs.declared.netlist.Cell.{Cell as Adder}
-use Rattle.circuit.specs.declared.netlist.Reg.{Reg}
-use Rattle.circuit.specs.declared.netlist.Item.{Item}
+use Rattle.circuit.specs.declared.cell.Cell.{Cell as Adder}
+use Rattle.circuit.specs.declared.register.Reg.{Reg}
+use Rattle.circuit.specs.declared.item.Item.{Item}
 use Rattle.circuit.specs.declared.netlist.Piece.{Piece}
 use Rattle.circuit.specs.declared.netlist.Piece.TheVariants as piece
 use Rattle.circuit.specs.Signal.{piece_width}
@@ -86,7 +86,7 @@ module _ (c : Circuit) (w : Wire) (flat : IsFlat c) (bare : c.items ≡ []) (wor
   bare_items d none i x g = let f : None ≡ Some x = sym (ap (λ (xs : List Item). slice_get xs i) none) ∙ g in cc f
 
   net_keeps : Keeps c (with_net c w)
-  net_keeps = record { nets = net_new; drives = refl; cells = refl; regs = refl; items = bare_items (with_net c w) bare }
+  net_keeps = record { nets = net_new; drives = refl; cells = refl; regs = refl; mems = refl; diags = refl; items = bare_items (with_net c w) bare }
 
   flat_net : IsFlat (with_net c w)
   flat_net = flat_kept c (with_net c w) flat net_extends net_keeps
@@ -127,6 +127,8 @@ module _ (c : Circuit) (w : Wire) (flat : IsFlat c) (bare : c.items ≡ []) (wor
     last = λ k p s. cc s;
     unread = λ k p s m x g r. cc s;
     items = bare;
+    mems = refl;
+    diags = refl;
   }
 
   flat_input : IsFlat (with_input (with_net c w) (length c.nets) w.width)
@@ -235,6 +237,8 @@ module _ (c : Circuit) (flat : IsFlat c) (bare : c.items ≡ []) (a b : Piece) (
 
   adder_flat : IsFlatCell added (adder_of a b width)
   adder_flat = record {
+    op = refl;
+    s = refl;
     a = (piece_width a, (good_a.0, piece_up c added adder_extends (piece_width a) a good_a.1));
     b = (piece_width b, (good_b.0, piece_up c added adder_extends (piece_width b) b good_b.1));
     a_unsigned = refl;
@@ -266,6 +270,8 @@ module _ (c : Circuit) (flat : IsFlat c) (bare : c.items ≡ []) (a b : Piece) (
     last = λ k p s. cc s;
     unread = λ k p s m x g r. adder_unread m x g r;
     items = bare;
+    mems = refl;
+    diags = refl;
   }
 
   flat_added : IsBareFlat (with_adder_on c (adder_of a b width) net width) c.nets
@@ -348,6 +354,7 @@ module _ (c : Circuit) (flat : IsFlat c) (bare : c.items ≡ []) (clk d : Piece)
 
   register_flat : IsFlatReg latched (register_of clk d width init)
   register_flat = record {
+    kind = refl;
     clk = one_bit;
     d = d_flat;
     width = subst (λ (w : ℕ). IsWordWidth w) same good_d.0;
@@ -373,6 +380,8 @@ module _ (c : Circuit) (flat : IsFlat c) (bare : c.items ≡ []) (clk d : Piece)
     last = λ k p s. cc s;
     unread = λ k p s m x g r. cc s;
     items = bare;
+    mems = refl;
+    diags = refl;
   }
 
   flat_latched : IsBareFlat (with_register_on c (register_of clk d width init) net width) c.nets
@@ -510,6 +519,8 @@ flat_frame m = record {
   once = λ i j d e g h s. cc g;
   cells = λ n x g. cc g;
   regs = λ n x g. cc g;
+  mems = refl;
+  diags = refl;
   rising = λ i j k l p q d e lt g h s t. cc g;
   order = λ m k p i net x d g r h s t. cc g;
   items = λ n x g. cc g;
@@ -524,6 +535,8 @@ flat_items c wires flat nets =
       drives = refl;
       cells = refl;
       regs = refl;
+      mems = refl;
+      diags = refl;
       items = items_flat (with_items wires c) wires (omega (arith, ap length nets, length-map wires net_of));
     })
 

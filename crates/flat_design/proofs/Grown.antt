@@ -7,9 +7,9 @@ use Rattle.circuit.specs.declared.netlist.Net.{Net}
 use Rattle.circuit.specs.declared.netlist.Drive.{Drive}
 use Rattle.circuit.specs.declared.netlist.By.{By}
 use Rattle.circuit.specs.declared.netlist.By.TheVariants as by
-use Rattle.circuit.specs.declared.netlist.Cell.{Cell}
-use Rattle.circuit.specs.declared.netlist.Reg.{Reg}
-use Rattle.circuit.specs.declared.netlist.Item.{Item}
+use Rattle.circuit.specs.declared.cell.Cell.{Cell}
+use Rattle.circuit.specs.declared.register.Reg.{Reg}
+use Rattle.circuit.specs.declared.item.Item.{Item}
 use Rattle.circuit.specs.declared.netlist.Piece.{Piece}
 use Rattle.circuit.specs.declared.netlist.Piece.TheVariants as piece
 use Rattle.flat_design.specs.Flat.{HasWidth, IsWordWidth, IsFlatPiece, IsFlatSig, ReadsNet, IsFlatBy, IsFlatDrive, IsFlatCell, IsFlatReg, IsNodeOf, IsFlat}
@@ -41,14 +41,17 @@ module _ (c d : Circuit) (up : Extends c d) where
   by_up net width (by.Wire n at) h = h
   by_up net width (by.Cell n at) h = (h.0, h.1, up.cells n h.1 h.2, h.3)
   by_up net width (by.Reg n at) h = (h.0, h.1, up.regs n h.1 h.2, h.3)
+  by_up net width (by.Read m n at) h = h
 
   pub drive_up : (e : Drive) → IsFlatDrive c e → IsFlatDrive d e
   drive_up e h = (h.0, width_up e.net e.width h.1, by_up e.net e.width e.by h.2)
 
   pub cell_up : (x : Cell) → IsFlatCell c x → IsFlatCell d x
   cell_up x h = record {
+    op = h.op;
     a = (h.a.0, sig_up h.a.0 x.a h.a.1);
     b = (h.b.0, sig_up h.b.0 x.b h.b.1);
+    s = h.s;
     a_unsigned = h.a_unsigned;
     b_unsigned = h.b_unsigned;
     width = h.width;
@@ -56,6 +59,7 @@ module _ (c d : Circuit) (up : Extends c d) where
 
   pub reg_up : (x : Reg) → IsFlatReg c x → IsFlatReg d x
   reg_up x h = record {
+    kind = h.kind;
     clk = sig_up 1 x.clk h.clk;
     d = sig_up x.width x.d h.d;
     width = h.width;
@@ -75,6 +79,8 @@ pub record Keeps (c d : Circuit) : Type 0 where
   pub drives : d.drives ≡ c.drives
   pub cells : d.cells ≡ c.cells
   pub regs : d.regs ≡ c.regs
+  pub mems : d.mems ≡ c.mems
+  pub diags : d.diags ≡ c.diags
   pub items : (i : ℕ) (x : Item) → slice_get d.items i ≡ Some x → (x.first_slot ≡ i) × IsNodeOf d x.kind
 
 -- the drive is new, and with it what it takes from
@@ -88,6 +94,8 @@ pub record Adds (c d : Circuit) (e : Drive) : Type 0 where
   pub last : (k p : ℕ) → e.by ≡ by.Cell k p → k ≡ length c.cells
   pub unread : (k p : ℕ) → e.by ≡ by.Cell k p → (m : ℕ) (x : Cell) → slice_get d.cells m ≡ Some x → ReadsNet x.a e.net ⊎ ReadsNet x.b e.net → ⊥
   pub items : d.items ≡ []
+  pub mems : d.mems ≡ c.mems
+  pub diags : d.diags ≡ c.diags
 
 module _ (c d : Circuit) (flat : IsFlat c) (up : Extends c d) (same : Keeps c d) where
   kept_nets : (n : ℕ) (x : Net) → slice_get d.nets n ≡ Some x → IsWordWidth x.width
@@ -111,6 +119,8 @@ module _ (c d : Circuit) (flat : IsFlat c) (up : Extends c d) (same : Keeps c d)
     regs = λ n x g. reg_up c d up x (flat.regs n x (kept_reg n x g));
     rising = λ i j k l p q e f lt g h s t. flat.rising i j k l p q e f lt (kept_drive i e g) (kept_drive j f h) s t;
     order = λ m k p i net x e g r h s t. flat.order m k p i net x e (kept_cell m x g) r (kept_drive i e h) s t;
+    mems = same.mems ∙ flat.mems;
+    diags = same.diags ∙ flat.diags;
     items = same.items;
   }
 
@@ -183,6 +193,8 @@ module _ (c d : Circuit) (e : Drive) (flat : IsFlat c) (up : Extends c d) (a : A
     once = more_once;
     cells = more_cells;
     regs = more_regs;
+    mems = a.mems ∙ flat.mems;
+    diags = a.diags ∙ flat.diags;
     rising = more_rising;
     order = more_order;
     items = no_items;

@@ -6,7 +6,7 @@ use Rattle.circuit.specs.Valuation.{covers, drive_of}
 use Rattle.circuit.specs.Free.{Test, all_below, sig_free, cell_free, by_free, drive_free, free_within, IsInOrder}
 use Rattle.circuit.specs.declared.netlist.Circuit.{Circuit}
 use Rattle.circuit.specs.declared.netlist.Drive.{Drive}
-use Rattle.circuit.specs.declared.netlist.Cell.{Cell}
+use Rattle.circuit.specs.declared.cell.Cell.{Cell}
 use Rattle.circuit.specs.declared.netlist.By.{By}
 use Rattle.circuit.specs.declared.netlist.By.TheVariants as by
 use Rattle.circuit.specs.declared.netlist.Piece.{Piece}
@@ -27,6 +27,10 @@ sig_true free (piece.Part n at w ∷ ps) h =
     and_from (all_below (λ j. free n (at + j)) w) (sig_free free ps)
     (all_true (λ j. free n (at + j)) w (λ k. h n (at + k) (inl refl)))
     (sig_true free ps (λ net bit r. h net bit (inr r)))
+
+nothing_free : (free : Test) → sig_free free [] ≡ true
+unfolding sig_free
+nothing_free free = refl
 
 covering_net : (net bit : ℕ) (d : Drive) → covers net bit d ≡ true → d.net ≡ net
 covering_net net bit d e = eqb-true d.net net (and_parts (eqb d.net net) (leb d.at bit && ltb bit (d.at + d.width)) e).0
@@ -53,9 +57,11 @@ module _ (c : Circuit) (flat : IsFlat c) where
   cell_true : (free : Test) (k l : ℕ) → l < suc k → ((net : ℕ) → IsEarly k net → (bit : ℕ) → free net bit ≡ true) → (o : Option Cell) → slice_get c.cells l ≡ o → cell_free free o ≡ true
   cell_true free k l lt h None at = refl
   cell_true free k l lt h (Some x) at =
-      and_from (sig_free free x.a) (sig_free free x.b)
+      and_from (sig_free free x.a) (sig_free free x.b && sig_free free x.s)
       (sig_true free x.a (λ net bit r. h net (reads_early k l x lt at net (inl r)) bit))
+      (and_from (sig_free free x.b) (sig_free free x.s)
       (sig_true free x.b (λ net bit r. h net (reads_early k l x lt at net (inr r)) bit))
+      (ap (sig_free free) (flat.cells l x at).s ∙ nothing_free free))
 
   by_first : (net width : ℕ) (b : By) (i : ℕ) (free : Test) → IsFlatBy c net width b → ((l p : ℕ) → b ≡ by.Cell l p → ⊥) → by_free c free b i ≡ true
   by_first net width (by.Const v) i free h never = absurd h
@@ -63,6 +69,7 @@ module _ (c : Circuit) (flat : IsFlat c) where
   by_first net width (by.Wire n at) i free h never = absurd h
   by_first net width (by.Cell n at) i free h never = absurd (never n at refl)
   by_first net width (by.Reg n at) i free h never = refl
+  by_first net width (by.Read m n at) i free h never = absurd h
 
   by_next : (net width k : ℕ) (b : By) (i : ℕ) (free : Test) → IsFlatBy c net width b → ((l p : ℕ) → b ≡ by.Cell l p → l < suc k) → ((n : ℕ) → IsEarly k n → (bit : ℕ) → free n bit ≡ true) → by_free c free b i ≡ true
   by_next net width k (by.Const v) i free h low down = absurd h
@@ -70,6 +77,7 @@ module _ (c : Circuit) (flat : IsFlat c) where
   by_next net width k (by.Wire n at) i free h low down = absurd h
   by_next net width k (by.Cell n at) i free h low down = cell_true free k n (low n at refl) down (slice_get c.cells n) refl
   by_next net width k (by.Reg n at) i free h low down = refl
+  by_next net width k (by.Read m n at) i free h low down = absurd h
 
   drive_first : (net bit : ℕ) (free : Test) → IsEarly 0 net → (o : Option Drive) → drive_of c net bit ≡ o → drive_free c free bit o ≡ true
   unfolding IsEarly

@@ -6,10 +6,11 @@ use Rattle.flat_text.specs.declared.module.Wire.{Wire}
 use Rattle.flat_text.specs.declared.module.Cell.{Cell}
 use Rattle.flat_text.specs.declared.module.Parameter.{Parameter}
 use Rattle.circuit.specs.declared.netlist.Circuit.{Circuit}
-use Rattle.circuit.specs.declared.netlist.Cell.{Cell as Adder}
-use Rattle.circuit.specs.declared.netlist.Reg.{Reg}
-use Rattle.circuit.specs.declared.netlist.RegKind.TheVariants as kind
-use Rattle.circuit.specs.declared.netlist.Op.TheVariants as op
+use Rattle.circuit.specs.declared.cell.Cell.{Cell as Adder}
+use Rattle.circuit.specs.declared.register.Reg.{Reg}
+use Rattle.circuit.specs.declared.register.RegKind.TheVariants as kind
+use Rattle.circuit.specs.declared.register.Polarity.{Polarity}
+use Rattle.circuit.specs.declared.cell.Op.TheVariants as op
 use Rattle.circuit.specs.declared.netlist.Drive.{Drive}
 use Rattle.circuit.specs.declared.netlist.By.{By}
 use Rattle.circuit.specs.declared.netlist.By.TheVariants as by
@@ -68,7 +69,7 @@ abbrev pub whole_drive : ℕ → ℕ → By → Drive
 whole_drive net width source = record { net = net; at = 0; width = width; by = source }
 
 abbrev pub adder_of : Piece → Piece → ℕ → Adder
-adder_of a b width = record { op = op.Add; a = a ∷ []; b = b ∷ []; a_signed = false; b_signed = false; width = width }
+adder_of a b width = record { op = op.Add; a = a ∷ []; b = b ∷ []; s = []; a_signed = false; b_signed = false; width = width; offset = 0 }
 
 abbrev pub with_adder_on : Circuit → Adder → ℕ → ℕ → Circuit
 with_adder_on c x net width = record c {
@@ -94,9 +95,25 @@ with_adder wires c x = if has_adder_form x then
     (joined_with_width wires x (codes "\\A") (codes "\\A_WIDTH"))
     else None
 
+-- the rising edge; the polarity of a port that a register lacks says nothing, and is true
+abbrev pub rising_edge : Polarity
+rising_edge = record { clk = true; en = true; set = true; clr = true; load = true }
+
 abbrev pub register_of : Piece → Piece → ℕ → BitValue → Reg
-register_of clk d width init =
-    record { kind = kind.Dff; width = width; clk = clk ∷ []; d = d ∷ []; pol = record { clk = true }; init = init }
+register_of clk d width init = record {
+  kind = kind.Dff;
+  width = width;
+  clk = clk ∷ [];
+  d = d ∷ [];
+  en = [];
+  set = [];
+  clr = [];
+  load = [];
+  ad = [];
+  pol = rising_edge;
+  value = zeros width;
+  init = init;
+}
 
 abbrev pub with_register_on : Circuit → Reg → ℕ → ℕ → Circuit
 with_register_on c x net width = record c {

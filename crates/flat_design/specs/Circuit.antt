@@ -22,9 +22,11 @@ frame_of m = record {
   drives = [];
   cells = [];
   regs = [];
+  mems = [];
   inputs = [];
   items = [];
-  scopes = record { name = []; «module» = bare_name m.name } ∷ [];
+  scopes = record { name = []; «module» = bare_name m.name; module_src = None; cell_src = None } ∷ [];
+  diags = [];
 }
 
 abbrev pub with_items : List Wire → Circuit → Circuit

@@ -1,5 +1,5 @@
 //! Cells: what each adds to a circuit.
-ghost use Rattle.std.specs.Prelude.{◌≡◌, ◌≢◌, ◌<◌, ◌≤◌, ◌+◌, ◌^◌, ◌||◌, map, length, Some, None, OnOk, IfOk, Err, [], ◌∷◌};
+ghost use Rattle.std.specs.Prelude.{◌≡◌, ◌≢◌, ◌<◌, ◌≤◌, ◌+◌, ◌^◌, ◌||◌, map, length, Some, None, OnOk, IfOk, Err, [], ◌∷◌, slice_get};
 ghost use Rattle.std.specs.List.{list_any, list_all};
 ghost use Rattle.std.specs.Option.{option_copied};
 ghost use Rattle.flat_design.specs.Names.{are_distinct};
@@ -16,6 +16,9 @@ ghost use Rattle.flat_design.specs.Cells.{
   sig_reads,
   cell_reads,
   is_driven,
+  adder_of,
+  rising_edge,
+  register_of,
   start_at,
   with_adder_to,
   with_adder,
@@ -160,6 +163,22 @@ fn one_piece(alloc: Global, piece: Piece) -> Result<Items<Piece>, FlatFault>
     Ok(pieces)
 }
 
+fn adder_of(alloc: Global, a: Piece, b: Piece, width: u32) -> Result<circuit::Cell, FlatFault>
+    ensures ok { IfOk result (λ x. x ≡ adder_of a b width) }
+    ensures memory { result ≢ Err FlatFault.NotBuilt }
+{
+    Ok(circuit::Cell {
+        op: Op::Add,
+        a: one_piece(alloc, a)?,
+        b: one_piece(alloc, b)?,
+        s: Items::new(alloc),
+        a_signed: false,
+        b_signed: false,
+        width,
+        offset: 0,
+    })
+}
+
 /// Adds an adder whose output is joined to `y`.
 #[tactic(auto, unfolding(crate::specs::Cells::with_adder_to))]
 fn add_adder_to(
@@ -177,14 +196,7 @@ fn add_adder_to(
     let Piece::Part { net, width, .. } = y else {
         return Err(FlatFault::NotBuilt);
     };
-    let adder = circuit::Cell {
-        op: Op::Add,
-        a: one_piece(alloc, a)?,
-        b: one_piece(alloc, b)?,
-        a_signed: false,
-        b_signed: false,
-        width,
-    };
+    let adder = adder_of(alloc, a, b, width)?;
     if is_driven(circuit.drives.as_slice(), net)
         || (is_read(net, circuit.cells.as_slice()) || cell_reads(net, &adder))
     {
@@ -233,6 +245,47 @@ fn start_at(alloc: Global, width: u32, wire: Option<&Wire>) -> Result<Bits, Flat
     }
 }
 
+/// The rising edge. The polarity of a port that a register lacks says nothing, and is true.
+fn rising_edge() -> Polarity
+    ensures { result ≡ rising_edge }
+{
+    Polarity {
+        clk: true,
+        en: true,
+        set: true,
+        clr: true,
+        load: true,
+    }
+}
+
+/// The register whose output is a whole net.
+fn register_on(
+    alloc: Global,
+    wires: &[Wire],
+    clk: Piece,
+    d: Piece,
+    net: u32,
+    width: u32,
+) -> Result<Reg, FlatFault>
+    ensures ok { IfOk result (λ x. x ≡ register_of clk d width (start_at width (slice_get wires.now net))) }
+    ensures memory { result ≢ Err FlatFault.NotBuilt }
+{
+    Ok(Reg {
+        kind: RegKind::Dff,
+        width,
+        clk: one_piece(alloc, clk)?,
+        d: one_piece(alloc, d)?,
+        en: Items::new(alloc),
+        set: Items::new(alloc),
+        clr: Items::new(alloc),
+        load: Items::new(alloc),
+        ad: Items::new(alloc),
+        pol: rising_edge(),
+        value: Bits::zero(alloc, width)?,
+        init: start_at(alloc, width, wires.get(net as usize))?,
+    })
+}
+
 /// Adds a register whose output is joined to `q`.
 #[tactic(auto, unfolding(crate::specs::Cells::with_register_to))]
 fn add_register_to(
@@ -254,14 +307,7 @@ fn add_register_to(
     if is_driven(circuit.drives.as_slice(), net) {
         return Err(FlatFault::NotBuilt);
     }
-    let register = Reg {
-        kind: RegKind::Dff,
-        width,
-        clk: one_piece(alloc, clk)?,
-        d: one_piece(alloc, d)?,
-        pol: Polarity { clk: true },
-        init: start_at(alloc, width, wires.get(net as usize))?,
-    };
+    let register = register_on(alloc, wires, clk, d, net, width)?;
     let place = circuit.regs.len() as u32;
     circuit.regs.push(register)?;
     circuit.drives.push(Drive {

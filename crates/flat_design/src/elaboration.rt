@@ -40,15 +40,19 @@ fn frame_of(alloc: Global, flat: &Module) -> Result<Circuit, FlatFault>
     scopes.push(Scope {
         name: Name::new(Vec::new(alloc)),
         module: bare_name(alloc, &flat.name)?,
+        module_src: None,
+        cell_src: None,
     })?;
     Ok(Circuit {
         nets: Items::new(alloc),
         drives: Items::new(alloc),
         cells: Items::new(alloc),
         regs: Items::new(alloc),
+        mems: Items::new(alloc),
         inputs: Items::new(alloc),
         items: Items::new(alloc),
         scopes,
+        diags: Items::new(alloc),
     })
 }
 

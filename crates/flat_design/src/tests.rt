@@ -123,8 +123,9 @@ fn write_items(text: &mut String, circuit: &Circuit) -> Result<(), AllocError> {
         let name = text_of(&item.name);
         let scope = item.scope;
         let kind = item.kind;
+        let src = &item.src;
         let slot = item.first_slot;
-        write!(text, "item {name} {scope} {kind:?} {slot}\n")?;
+        write!(text, "item {name} {scope} {kind:?} {src:?} {slot}\n")?;
     }
     Ok(())
 }
@@ -133,7 +134,9 @@ fn write_scopes(text: &mut String, circuit: &Circuit) -> Result<(), AllocError> 
     for scope in circuit.scopes.as_slice() {
         let name = text_of(&scope.name);
         let of = text_of(&scope.module);
-        write!(text, "scope '{name}' {of}\n")?;
+        let module_src = &scope.module_src;
+        let cell_src = &scope.cell_src;
+        write!(text, "scope '{name}' {of} {module_src:?} {cell_src:?}\n")?;
     }
     Ok(())
 }
@@ -143,7 +146,12 @@ fn write_logic(text: &mut String, circuit: &Circuit) -> Result<(), AllocError> {
     let drives = circuit.drives.as_slice();
     let cells = circuit.cells.as_slice();
     let regs = circuit.regs.as_slice();
-    write!(text, "{inputs:?}\n{drives:?}\n{cells:?}\n{regs:?}\n")
+    let mems = circuit.mems.as_slice();
+    let diags = circuit.diags.as_slice();
+    write!(
+        text,
+        "{inputs:?}\n{drives:?}\n{cells:?}\n{regs:?}\n{mems:?}\n{diags:?}\n"
+    )
 }
 
 /// All fields of the circuit.
@@ -196,11 +204,13 @@ net $n 8
 net \\clk 1
 [2]
 [Drive { net: 2, at: 0, width: 1, by: Input(0, 0) }, Drive { net: 1, at: 0, width: 8, by: Cell(0, 0) }, Drive { net: 0, at: 0, width: 8, by: Reg(0, 0) }]
-[Cell { op: Add, a: Items { items: [Part { net: 0, at: 0, width: 8 }] }, b: Items { items: [Const(Bits { words: [1], width: 1 })] }, a_signed: false, b_signed: false, width: 8 }]
-[Reg { kind: Dff, width: 8, clk: Items { items: [Part { net: 2, at: 0, width: 1 }] }, d: Items { items: [Part { net: 1, at: 0, width: 8 }] }, pol: Polarity { clk: true }, init: Bits { words: [5], width: 8 } }]
-item clk 0 Node { net: 2, lsb_at: 0, input: true, output: false } 0
-item q 0 Node { net: 0, lsb_at: 0, input: false, output: true } 1
-scope '' counter
+[Cell { op: Add, a: Items { items: [Part { net: 0, at: 0, width: 8 }] }, b: Items { items: [Const(Bits { words: [1], width: 1 })] }, s: Items { items: [] }, a_signed: false, b_signed: false, width: 8, offset: 0 }]
+[Reg { kind: Dff, width: 8, clk: Items { items: [Part { net: 2, at: 0, width: 1 }] }, d: Items { items: [Part { net: 1, at: 0, width: 8 }] }, en: Items { items: [] }, set: Items { items: [] }, clr: Items { items: [] }, load: Items { items: [] }, ad: Items { items: [] }, pol: Polarity { clk: true, en: true, set: true, clr: true, load: true }, value: Bits { words: [0], width: 8 }, init: Bits { words: [5], width: 8 } }]
+[]
+[]
+item clk 0 Node { net: 2, lsb_at: 0, input: true, output: false } None 0
+item q 0 Node { net: 0, lsb_at: 0, input: false, output: true } None 1
+scope '' counter None None
 "
     );
     Ok(())

@@ -5,7 +5,7 @@ use Rattle.std.proofs.lemmas.Bool.{cases_eq}
 use Rattle.std.proofs.lemmas.Option.{slice_get_within}
 use Rattle.circuit.specs.Signal.{Digits}
 use Rattle.circuit.specs.Next.{next_number, next_numbers}
-use Rattle.circuit.specs.declared.netlist.Reg.{Reg}
+use Rattle.circuit.specs.declared.register.Reg.{Reg}
 
 -- the first n registers have their next numbers, which fit
 abbrev pub AreClocked : List Reg → Digits → Digits → List ℕ → List ℕ → ℕ → Type 0

@@ -1,14 +1,17 @@
--- A test that a circuit without items is flat, which computes at a circuit that is written out.
-use Rattle.std.proofs.Common.{◌≡◌, ℕ, zero, suc, ◌+◌, ◌<◌, ◌⊎◌, List, [], ◌∷◌, length, Bool, true, false, not, ◌&&◌, ◌||◌, eqb, leb, ltb, Option, Some, None, refl, sym, ◌∙◌, ap, arith, inl, inr}
+-- A test that a circuit of adders and plain registers, without items, is flat, which computes at a circuit that is
+-- written out.
+use Rattle.std.proofs.Common.{◌≡◌, ℕ, zero, suc, ◌+◌, ◌<◌, ◌⊎◌, List, [], ◌∷◌, length, Bool, true, false, not, ◌&&◌, ◌||◌, eqb, leb, ltb, Option, Some, None, refl, sym, ◌∙◌, ap, subst, arith, inl, inr}
 use Rattle.std.specs.Prelude.{slice_get, slice_index}
 use Rattle.std.proofs.lemmas.Bool.{and_parts, eqb-true, leb-true, ltb-true, eq-eqb, lt-ltb, not-true, false≢true, or_left, or_right}
 use Rattle.circuit.specs.Signal.{sig_width}
 use Rattle.circuit.specs.declared.netlist.Circuit.{Circuit}
 use Rattle.circuit.specs.declared.netlist.Net.{Net}
-use Rattle.circuit.specs.declared.netlist.Reg.{Reg}
-use Rattle.circuit.specs.declared.netlist.Cell.{Cell}
+use Rattle.circuit.specs.declared.register.Reg.{Reg}
+use Rattle.circuit.specs.declared.register.RegKind.TheVariants as kind
+use Rattle.circuit.specs.declared.cell.Cell.{Cell}
+use Rattle.circuit.specs.declared.cell.Op.TheVariants as op
 use Rattle.circuit.specs.declared.netlist.Drive.{Drive}
-use Rattle.circuit.specs.declared.netlist.Item.{Item}
+use Rattle.circuit.specs.declared.item.Item.{Item}
 use Rattle.circuit.specs.declared.netlist.By.{By}
 use Rattle.circuit.specs.declared.netlist.By.TheVariants as by
 use Rattle.circuit.specs.declared.netlist.Piece.{Piece}
@@ -42,6 +45,22 @@ has f (Some x) n = eqb (f x) n
 has_at : {A : Type 0} (f : A → ℕ) (o : Option A) (n : ℕ) → has f o n ≡ true → (x : A) × (o ≡ Some x) × (f x ≡ n)
 has_at f None n h = absurd (false≢true h)
 has_at f (Some x) n h = (x, refl, eqb-true (f x) n h)
+
+-- the same of all items of a list, each of which is shown by itself
+abbrev pub All : {A : Type 0} → (A → Type 0) → List A → Type 0
+All P [] = Unit {0}
+All P (x ∷ xs) = P x × All P xs
+
+one_of : {A : Type 0} (P : A → Type 0) (xs : List A) → All P xs → (i : ℕ) (x : A) → slice_get xs i ≡ Some x → P x
+one_of P [] h i x e = cc e
+one_of P (y ∷ ys) h zero x e = let same : y ≡ x = cc e in subst P same h.0
+one_of P (y ∷ ys) h (suc i) x e = one_of P ys h.1 i x e
+
+abbrev pub IsAdder : Cell → Type 0
+IsAdder x = (x.op ≡ op.Add) × (x.s ≡ [])
+
+abbrev pub IsPlain : Reg → Type 0
+IsPlain x = x.kind ≡ kind.Dff
 
 -- ---- the parts
 
@@ -79,6 +98,7 @@ flat_by c net w (by.Input n at) = eqb at 0 && (ltb n (length c.inputs) && eqb (s
 flat_by c net w (by.Wire n at) = false
 flat_by c net w (by.Cell n at) = eqb at 0 && has (λ (x : Cell). x.width) (slice_get c.cells n) w
 flat_by c net w (by.Reg n at) = eqb at 0 && has (λ (x : Reg). x.width) (slice_get c.regs n) w
+flat_by c net w (by.Read m n at) = false
 
 flat_by_is : (c : Circuit) (net w : ℕ) (b : By) → flat_by c net w b ≡ true → IsFlatBy c net w b
 flat_by_is c net w (by.Const v) h = absurd (false≢true h)
@@ -93,6 +113,7 @@ flat_by_is c net w (by.Cell n at) h =
 flat_by_is c net w (by.Reg n at) h =
     let p = and_parts (eqb at 0) (has (λ (x : Reg). x.width) (slice_get c.regs n) w) h in
     let x = has_at (λ (x : Reg). x.width) (slice_get c.regs n) w p.1 in (eqb-true at 0 p.0, x.0, x.1, x.2)
+flat_by_is c net w (by.Read m n at) h = absurd (false≢true h)
 
 abbrev flat_drive : Circuit → Drive → Bool
 flat_drive c d = eqb d.at 0 && (has (λ (x : Net). x.width) (slice_get c.nets d.net) d.width && flat_by c d.net d.width d.by)
@@ -107,13 +128,15 @@ flat_drive_is c d h =
 abbrev flat_cell : Circuit → Cell → Bool
 flat_cell c x = flat_sig c (sig_width x.a) x.a && (flat_sig c (sig_width x.b) x.b && (not x.a_signed && (not x.b_signed && word_width x.width)))
 
-flat_cell_is : (c : Circuit) (x : Cell) → flat_cell c x ≡ true → IsFlatCell c x
-flat_cell_is c x h =
+flat_cell_is : (c : Circuit) (x : Cell) → IsAdder x → flat_cell c x ≡ true → IsFlatCell c x
+flat_cell_is c x adder h =
     let p = and_parts (flat_sig c (sig_width x.a) x.a) (flat_sig c (sig_width x.b) x.b && (not x.a_signed && (not x.b_signed && word_width x.width))) h in
     let q = and_parts (flat_sig c (sig_width x.b) x.b) (not x.a_signed && (not x.b_signed && word_width x.width)) p.1 in
     let r = and_parts (not x.a_signed) (not x.b_signed && word_width x.width) q.1 in
     let s = and_parts (not x.b_signed) (word_width x.width) r.1 in
     record {
+      op = adder.0;
+      s = adder.1;
       a = (sig_width x.a, flat_sig_is c (sig_width x.a) x.a p.0);
       b = (sig_width x.b, flat_sig_is c (sig_width x.b) x.b q.0);
       a_unsigned = not-true x.a_signed r.0;
@@ -124,13 +147,14 @@ flat_cell_is c x h =
 abbrev flat_reg : Circuit → Reg → Bool
 flat_reg c x = flat_sig c 1 x.clk && (flat_sig c x.width x.d && (word_width x.width && (x.pol.clk && eqb x.init.width x.width)))
 
-flat_reg_is : (c : Circuit) (x : Reg) → flat_reg c x ≡ true → IsFlatReg c x
-flat_reg_is c x h =
+flat_reg_is : (c : Circuit) (x : Reg) → x.kind ≡ kind.Dff → flat_reg c x ≡ true → IsFlatReg c x
+flat_reg_is c x plain h =
     let p = and_parts (flat_sig c 1 x.clk) (flat_sig c x.width x.d && (word_width x.width && (x.pol.clk && eqb x.init.width x.width))) h in
     let q = and_parts (flat_sig c x.width x.d) (word_width x.width && (x.pol.clk && eqb x.init.width x.width)) p.1 in
     let r = and_parts (word_width x.width) (x.pol.clk && eqb x.init.width x.width) q.1 in
     let s = and_parts x.pol.clk (eqb x.init.width x.width) r.1 in
     record {
+      kind = plain;
       clk = flat_sig_is c 1 x.clk p.0;
       d = flat_sig_is c x.width x.d q.0;
       width = word_width_is x.width r.0;
@@ -153,10 +177,12 @@ earlier (by.Const v) b = true
 earlier (by.Input n at) b = true
 earlier (by.Wire n at) b = true
 earlier (by.Reg n at) b = true
+earlier (by.Read m n at) b = true
 earlier (by.Cell k p) (by.Const v) = true
 earlier (by.Cell k p) (by.Input n at) = true
 earlier (by.Cell k p) (by.Wire n at) = true
 earlier (by.Cell k p) (by.Reg n at) = true
+earlier (by.Cell k p) (by.Read m n at) = true
 earlier (by.Cell k p) (by.Cell l q) = ltb k l
 
 earlier_is : (a b : By) (k p l q : ℕ) → earlier a b ≡ true → a ≡ by.Cell k p → b ≡ by.Cell l q → k < l
@@ -187,8 +213,8 @@ flat_test c =
     && (every (λ i (d : Drive). every (λ j (e : Drive). implied (ltb i j) (earlier d.by e.by)) 0 c.drives) 0 c.drives
     && every (λ m (x : Cell). every (λ i (d : Drive). implied (reads x.a d.net || reads x.b d.net) (earlier d.by (by.Cell m 0))) 0 c.drives) 0 c.cells)))))
 
-pub flat_from_test : (c : Circuit) → flat_test c ≡ true → c.items ≡ [] → IsFlat c
-flat_from_test c h none =
+pub flat_from_test : (c : Circuit) → flat_test c ≡ true → All IsAdder c.cells → All IsPlain c.regs → c.mems ≡ [] → c.diags ≡ [] → c.items ≡ [] → IsFlat c
+flat_from_test c h adders plain no_mems no_diags none =
     let p0 = and_parts (every (λ n (x : Net). word_width x.width) 0 c.nets) _ h in
     let p1 = and_parts (every (λ i (d : Drive). flat_drive c d) 0 c.drives) _ p0.1 in
     let p2 = and_parts (every (λ n (x : Cell). flat_cell c x) 0 c.cells) _ p1.1 in
@@ -203,8 +229,10 @@ flat_from_test c h none =
           (all_at (λ j (e : Drive). implied (eqb d.net e.net) (eqb i j)) c.drives
           (all_at (λ i (d : Drive). every (λ j (e : Drive). implied (eqb d.net e.net) (eqb i j)) 0 c.drives) c.drives p4.0 i d at_i) j e at_j)
           (eq-eqb d.net e.net same));
-      cells = λ n x e. flat_cell_is c x (all_at (λ n (x : Cell). flat_cell c x) c.cells p2.0 n x e);
-      regs = λ n x e. flat_reg_is c x (all_at (λ n (x : Reg). flat_reg c x) c.regs p3.0 n x e);
+      cells = λ n x e. flat_cell_is c x (one_of IsAdder c.cells adders n x e) (all_at (λ n (x : Cell). flat_cell c x) c.cells p2.0 n x e);
+      regs = λ n x e. flat_reg_is c x (one_of IsPlain c.regs plain n x e) (all_at (λ n (x : Reg). flat_reg c x) c.regs p3.0 n x e);
+      mems = no_mems;
+      diags = no_diags;
       rising = λ i j k l p q d e lt at_i at_j b_d b_e.
           earlier_is d.by e.by k p l q (implied_at (ltb i j) (earlier d.by e.by)
           (all_at (λ j (e : Drive). implied (ltb i j) (earlier d.by e.by)) c.drives

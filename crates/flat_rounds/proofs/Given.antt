@@ -8,10 +8,13 @@ use Rattle.std.proofs.lemmas.Nat.Bits.{bit_at-lt}
 use Rattle.std.proofs.lemmas.List.{get_or_past}
 use Rattle.circuit.specs.Signal.{Digits, digits_of_nets, gathered, sig_number}
 use Rattle.circuit.specs.Output.{output, modulo}
-use Rattle.circuit.specs.Valuation.{State, covers, drive_of, cell_digit, given, driven, digit_within, digit_at, bits_of, numbers_from, valuation, IsValuation}
+use Rattle.circuit.specs.State.{State, Stored}
+use Rattle.circuit.specs.Valuation.{covers, drive_of, cell_digit, port_number, port_digit, read_digit, given, driven, digit_within, digit_at, bits_of, numbers_from, valuation, IsValuation}
 use Rattle.circuit.specs.declared.netlist.Circuit.{Circuit}
 use Rattle.circuit.specs.declared.netlist.Net.{Net}
-use Rattle.circuit.specs.declared.netlist.Cell.{Cell}
+use Rattle.circuit.specs.declared.cell.Cell.{Cell}
+use Rattle.circuit.specs.declared.memory.Mem.{Mem}
+use Rattle.circuit.specs.declared.memory.ReadPort.{ReadPort}
 use Rattle.circuit.specs.declared.netlist.Drive.{Drive}
 use Rattle.circuit.specs.declared.netlist.By.{By}
 use Rattle.circuit.specs.declared.netlist.By.TheVariants as by
@@ -62,12 +65,22 @@ module _ (c : Circuit) (state : State) (inputs : List ℕ) (digits : Digits) (sm
   cell_small None i = omega arith
   cell_small (Some x) i = bit_at-lt (output digits x) i
 
+  port_small : (m : Mem) (kept : Stored) (n : ℕ) (o : Option ReadPort) (i : ℕ) → port_digit digits m kept n o i < 2
+  port_small m kept n None i = omega arith
+  port_small m kept n (Some p) i = bit_at-lt (port_number digits m kept n p) i
+
+  read_small : (o : Option Mem) (k : Option Stored) (n i : ℕ) → read_digit digits o k n i < 2
+  read_small None k n i = omega arith
+  read_small (Some m) None n i = omega arith
+  read_small (Some m) (Some kept) n i = port_small m kept n (slice_get m.reads n) i
+
   given_small : (b : By) (i : ℕ) → given c state inputs digits b i < 2
   given_small (by.Const v) i = bit_at-lt v.number i
   given_small (by.Input n at) i = bit_at-lt (slice_index inputs n) (at + i)
   given_small (by.Wire n at) i = small n (at + i)
   given_small (by.Cell n at) i = cell_small (slice_get c.cells n) (at + i)
   given_small (by.Reg n at) i = bit_at-lt (slice_index state.regs n) (at + i)
+  given_small (by.Read m n at) i = read_small (slice_get c.mems m) (slice_get state.mems m) n (at + i)
 
   driven_small : (bit : ℕ) (m : Option Drive) → driven c state inputs digits bit m < 2
   driven_small bit None = omega arith
@@ -114,7 +127,7 @@ sig_valued c state inputs w (p ∷ q ∷ ps) flat = absurd flat
 
 cell_valued : (c : Circuit) (state : State) (inputs : List ℕ) (x : Cell) → IsFlatCell c x → output (digit_at c state inputs) x ≡ output (digits_of_nets (valuation c state inputs)) x
 cell_valued c state inputs x flat =
-    output_same x (digit_at c state inputs) (digits_of_nets (valuation c state inputs))
+    output_same x (digit_at c state inputs) (digits_of_nets (valuation c state inputs)) flat.s
     (sig_valued c state inputs flat.a.0 x.a flat.a.1) (sig_valued c state inputs flat.b.0 x.b flat.b.1)
 
 -- ---- what a driver gives
@@ -145,11 +158,13 @@ module _ (c : Circuit) (state : State) (inputs : List ℕ) (flat : IsFlat c) (in
   given_below d net width x at wide (by.Reg n k) h =
       let P : ℕ → Type 0 = λ m. slice_index state.regs n < 2 ^ m in
       subst P h.3 (regs.below n h.1 h.2)
+  given_below d net width x at wide (by.Read m n k) h = absurd h
 
   digit_given : (net width : ℕ) (b : By) (i : ℕ) → IsFlatBy c net width b → given c state inputs (digit_at c state inputs) b i ≡ bit_at (number_given c state.regs inputs (digits_of_nets (valuation c state inputs)) b) (0 + i)
   digit_given net width (by.Const v) i h = absurd h
   digit_given net width (by.Input n k) i h = ap (λ m. bit_at (slice_index inputs n) (m + i)) h.0
   digit_given net width (by.Wire n k) i h = absurd h
+  digit_given net width (by.Read m n k) i h = absurd h
   digit_given net width (by.Reg n k) i h = ap (λ m. bit_at (slice_index state.regs n) (m + i)) h.0
   digit_given net width (by.Cell n k) i h =
       ap (λ o. cell_digit (digit_at c state inputs) o (k + i)) h.2

@@ -1,11 +1,11 @@
 -- A flat circuit is in order.
-use Rattle.std.proofs.Common.{◌≡◌, ℕ, zero, suc, ◌+◌, ◌-◌, ◌<◌, ◌⊎◌, List, [], ◌∷◌, Bool, true, eqb, leb, ltb, ◌&&◌, Option, Some, None, refl, sym, ◌∙◌, ap, arith, inl, inr}
+use Rattle.std.proofs.Common.{◌≡◌, ℕ, zero, suc, ◌+◌, ◌-◌, ◌<◌, ◌⊎◌, List, [], ◌∷◌, Bool, true, eqb, leb, ltb, ◌&&◌, Option, Some, None, refl, sym, ◌∙◌, ap, subst, arith, inl, inr}
 use Rattle.std.specs.Prelude.{find, slice_get}
 use Rattle.std.proofs.lemmas.Bool.{and_parts, and_from, eqb-true, cases_Bool, cond-true, cond-false}
 use Rattle.circuit.specs.Valuation.{covers, drive_of}
 use Rattle.circuit.specs.Free.{Test, all_below, sig_free, cell_free, by_free, drive_free, free_within, IsFree, IsInOrder}
 use Rattle.circuit.specs.declared.netlist.Circuit.{Circuit}
-use Rattle.circuit.specs.declared.netlist.Cell.{Cell}
+use Rattle.circuit.specs.declared.cell.Cell.{Cell}
 use Rattle.circuit.specs.declared.netlist.Drive.{Drive}
 use Rattle.circuit.specs.declared.netlist.By.{By}
 use Rattle.circuit.specs.declared.netlist.By.TheVariants as by
@@ -42,12 +42,14 @@ sig_from free (piece.Part n at w ∷ ps) h =
     (all_from (λ j. free n (at + j)) w (λ k. h n (at + k) (inl refl)))
     (sig_from free ps (λ net bit r. h net bit (inr r)))
 
-cell_from : (free : Test) (o : Option Cell) → ((x : Cell) (net bit : ℕ) → o ≡ Some x → ReadsNet x.a net ⊎ ReadsNet x.b net → free net bit ≡ true) → cell_free free o ≡ true
-cell_from free None h = refl
-cell_from free (Some x) h =
-    and_from (sig_free free x.a) (sig_free free x.b)
+cell_from : (free : Test) (o : Option Cell) → ((x : Cell) → o ≡ Some x → x.s ≡ []) → ((x : Cell) (net bit : ℕ) → o ≡ Some x → ReadsNet x.a net ⊎ ReadsNet x.b net → free net bit ≡ true) → cell_free free o ≡ true
+cell_from free None none h = refl
+cell_from free (Some x) none h =
+    and_from (sig_free free x.a) (sig_free free x.b && sig_free free x.s)
     (sig_from free x.a (λ net bit r. h x net bit refl (inl r)))
+    (and_from (sig_free free x.b) (sig_free free x.s)
     (sig_from free x.b (λ net bit r. h x net bit refl (inr r)))
+    (sig_from free x.s (λ net bit r. absurd (subst (λ (ps : List Piece). ReadsNet ps net) (none x refl) r))))
 
 -- no cell from the k-th on drives the bit
 IsEarlier : ℕ → Option Drive → Type 0
@@ -60,8 +62,9 @@ module _ (c : Circuit) (flat : IsFlat c) where
   by_from free k bit net d h early w (by.Const v) e flat_by = refl
   by_from free k bit net d h early w (by.Input n at) e flat_by = refl
   by_from free k bit net d h early w (by.Wire n at) e flat_by = absurd flat_by
-  by_from free k bit net d h early w (by.Cell n at) e flat_by = cell_from free (slice_get c.cells n) (λ x net bit is r. h n x (early n at e) is net bit r)
+  by_from free k bit net d h early w (by.Cell n at) e flat_by = cell_from free (slice_get c.cells n) (λ x is. (flat.cells n x is).s) (λ x net bit is r. h n x (early n at e) is net bit r)
   by_from free k bit net d h early w (by.Reg n at) e flat_by = refl
+  by_from free k bit net d h early w (by.Read m n at) e flat_by = absurd flat_by
 
   drive_from : (free : Test) (k net bit : ℕ) → ((n : ℕ) (x : Cell) → n < k → slice_get c.cells n ≡ Some x → (net bit : ℕ) → ReadsNet x.a net ⊎ ReadsNet x.b net → free net bit ≡ true)
       → (m : Option Drive) → drive_of c net bit ≡ m → IsEarlier k m → drive_free c free bit m ≡ true
@@ -94,6 +97,7 @@ module _ (c : Circuit) (flat : IsFlat c) where
   behind (by.Wire n at) = 0
   behind (by.Cell n at) = suc n
   behind (by.Reg n at) = 0
+  behind (by.Read m n at) = 0
 
   behind_is : (b : By) (n at : ℕ) → b ≡ by.Cell n at → n < behind b
   unfolding behind

@@ -8,10 +8,10 @@ use Rattle.std.proofs.lemmas.Option.{slice_get_within}
 use Rattle.std.proofs.lemmas.List.{length-set, ext_get_or, get_or-replicate, length-replicate, get_or_past}
 use Rattle.circuit.specs.Signal.{digits_of_nets}
 use Rattle.circuit.specs.Output.{output}
-use Rattle.circuit.specs.Valuation.{State}
+use Rattle.circuit.specs.State.{State}
 use Rattle.circuit.specs.declared.netlist.Circuit.{Circuit}
 use Rattle.circuit.specs.declared.netlist.Net.{Net}
-use Rattle.circuit.specs.declared.netlist.Cell.{Cell}
+use Rattle.circuit.specs.declared.cell.Cell.{Cell}
 use Rattle.circuit.specs.declared.netlist.Drive.{Drive}
 use Rattle.circuit.specs.declared.netlist.By.{By}
 use Rattle.circuit.specs.declared.netlist.By.TheVariants as by
@@ -81,6 +81,7 @@ no_source c net w (by.Input n at) no_input no_reg flat s = no_input n at refl
 no_source c net w (by.Wire n at) no_input no_reg flat s = flat
 no_source c net w (by.Cell n at) no_input no_reg flat s = s
 no_source c net w (by.Reg n at) no_input no_reg flat s = no_reg n at refl
+no_source c net w (by.Read m n at) no_input no_reg flat s = flat
 
 -- ---- cells
 
@@ -127,7 +128,7 @@ ready c flat i m p net d x at b is reads j k q e at_j on b_j =
 pub cell_value : (c : Circuit) → IsFlat c → (regs inputs nets numbers : List ℕ) (i m p : ℕ) (d : Drive) (x : Cell) → AreGiven c regs inputs numbers → slice_get c.drives i ≡ Some d → d.by ≡ by.Cell m p → slice_get c.cells m ≡ Some x
     → ((n : ℕ) → IsEvaluated c i n → slice_index nets n ≡ slice_index numbers n) → output (digits_of_nets nets) x ≡ slice_index numbers d.net
 cell_value c flat regs inputs nets numbers i m p d x are at b is right =
-    cell_same x (digits_of_nets nets) (digits_of_nets numbers) (λ net bit reads. ap (λ n. bit_at n bit) (right net (ready c flat i m p net d x at b is reads)))
+    cell_same x (digits_of_nets nets) (digits_of_nets numbers) (flat.cells m x is).s (λ net bit reads. ap (λ n. bit_at n bit) (right net (ready c flat i m p net d x at b is reads)))
     ∙ ap (cell_number (digits_of_nets numbers)) (sym is)
     ∙ ap (number_given c regs inputs (digits_of_nets numbers)) (sym b)
     ∙ sym (are.driven i d at)
@@ -135,7 +136,7 @@ cell_value c flat regs inputs nets numbers i m p d x are at b is right =
 -- ---- whole steps
 
 -- what a drive's width says of its net
-there : (c : Circuit) → IsFlat c → (nets : List ℕ) → AreNetNumbers c nets → (i : ℕ) (d : Drive) → slice_get c.drives i ≡ Some d → d.net < length nets
+pub there : (c : Circuit) → IsFlat c → (nets : List ℕ) → AreNetNumbers c nets → (i : ℕ) (d : Drive) → slice_get c.drives i ≡ Some d → d.net < length nets
 there c flat nets are i d at =
     let h = flat.drives i d at in omega (arith, slice_get_within c.nets d.net h.1.0 h.1.1, are.long)
 
@@ -199,6 +200,7 @@ sources_first c nets numbers right n none =
     no_cell (by.Wire n at) h = tt
     no_cell (by.Cell n at) h = h n at refl
     no_cell (by.Reg n at) h = tt
+    no_cell (by.Read m n at) h = tt
 
 -- nets that are all 0
 pub zeros_fit : (c : Circuit) (nets : List ℕ) → length nets ≡ length c.nets → ((n : ℕ) → slice_index nets n ≡ 0) → AreNetNumbers c nets

@@ -1,16 +1,16 @@
 -- What signals and cells of one word read.
-use Rattle.std.proofs.Common.{◌≡◌, ℕ, ◌+◌, ◌*◌, ◌%◌, ◌^◌, ◌<◌, ◌⊎◌, List, [], ◌∷◌, Bool, ◌&&◌, false, refl, sym, ◌∙◌, ap, subst, arith, inl, inr, pos, get_or}
+use Rattle.std.proofs.Common.{◌≡◌, ℕ, ◌+◌, ◌*◌, ◌%◌, ◌^◌, ◌<◌, ◌⊎◌, List, [], ◌∷◌, Bool, ◌&&◌, false, refl, sym, ◌∙◌, ap, subst, arith, inl, inr, pos, ◌+ℤ◌, get_or}
 use Rattle.std.specs.Prelude.{slice_index}
 use Rattle.std.specs.Int.{bit_at}
 use Rattle.std.proofs.lemmas.Option.{slice_get_within}
 use Rattle.circuit.specs.Signal.{Digits, digits_of_nets, gathered, piece_number, sig_number, sig_width}
-use Rattle.circuit.specs.Output.{modulo, operand, formula, output}
+use Rattle.sim_base.specs.BitValue.{bit_value}
+use Rattle.circuit.specs.Output.{Inputs, modulo, operand, formula, inputs_of, output}
 use Rattle.circuit.specs.declared.netlist.Circuit.{Circuit}
-use Rattle.circuit.specs.declared.netlist.Cell.{Cell}
+use Rattle.circuit.specs.declared.cell.Cell.{Cell}
 use Rattle.circuit.specs.declared.netlist.Piece.{Piece}
 use Rattle.circuit.specs.declared.netlist.Piece.TheVariants as piece
-use Rattle.circuit.specs.declared.netlist.Op.{Op}
-use Rattle.circuit.specs.declared.netlist.Op.TheVariants as op
+use Rattle.circuit.specs.declared.cell.Op.TheVariants as op
 use Rattle.flat_design.specs.Flat.{IsWordWidth, IsFlatPiece, IsFlatSig, IsFlatCell, ReadsNet}
 use Rattle.flat_rounds.specs.Pass.{AreNetNumbers}
 use Rattle.flat_rounds.specs.Word.{IsWordPiece, IsWordSig, IsWordCell}
@@ -42,6 +42,7 @@ word_sig c nets w (p ∷ q ∷ ps) are flat = absurd flat
 
 pub word_cell : (c : Circuit) (nets : List ℕ) (x : Cell) → AreNetNumbers c nets → IsFlatCell c x → IsWordCell nets x
 word_cell c nets x are flat = record {
+  op = flat.op;
   a = word_sig c nets flat.a.0 x.a are flat.a.1;
   b = word_sig c nets flat.b.0 x.b are flat.b.1;
   a_unsigned = flat.a_unsigned;
@@ -67,25 +68,40 @@ sig_same (piece.Part n at w ∷ ps) d e h =
     let g : gathered (λ j. d n (at + j)) w ≡ gathered (λ j. e n (at + j)) w = gathered_same w (λ j. d n (at + j)) (λ j. e n (at + j)) (λ j lt. h n (at + j) (inl refl)) in
     cc (t, g)
 
--- equal signals, equal outputs
-pub output_same : (x : Cell) (d e : Digits) → sig_number d x.a ≡ sig_number e x.a → sig_number d x.b ≡ sig_number e x.b → output d x ≡ output e x
-output_same x d e a b = cc (a, b)
+-- the empty signal
+empty_same : (ps : List Piece) (d e : Digits) → ps ≡ [] → sig_number d ps ≡ sig_number e ps
+empty_same ps d e none = sig_same ps d e (λ net bit r. absurd (subst (λ (qs : List Piece). ReadsNet qs net) none r))
 
-pub cell_same : (x : Cell) (d e : Digits) → ((net bit : ℕ) → ReadsNet x.a net ⊎ ReadsNet x.b net → d net bit ≡ e net bit) → output d x ≡ output e x
-cell_same x d e h =
-    output_same x d e (sig_same x.a d e (λ net bit r. h net bit (inl r))) (sig_same x.b d e (λ net bit r. h net bit (inr r)))
+abbrev with_numbers : Cell → ℕ → ℕ → ℕ → Inputs
+with_numbers x a b s = record {
+  width = x.width;
+  offset = x.offset;
+  a_signed = x.a_signed;
+  b_signed = x.b_signed;
+  a = bit_value (sig_width x.a) a;
+  b = bit_value (sig_width x.b) b;
+  s = bit_value (sig_width x.s) s;
+}
+
+-- equal signals, equal outputs
+pub output_same : (x : Cell) (d e : Digits) → x.s ≡ [] → sig_number d x.a ≡ sig_number e x.a → sig_number d x.b ≡ sig_number e x.b → output d x ≡ output e x
+output_same x d e none a b =
+    ap (λ n. modulo x.width (formula x.op (with_numbers x n (sig_number d x.b) (sig_number d x.s)))) a
+    ∙ ap (λ n. modulo x.width (formula x.op (with_numbers x (sig_number e x.a) n (sig_number d x.s)))) b
+    ∙ ap (λ n. modulo x.width (formula x.op (with_numbers x (sig_number e x.a) (sig_number e x.b) n))) (empty_same x.s d e none)
+
+pub cell_same : (x : Cell) (d e : Digits) → x.s ≡ [] → ((net bit : ℕ) → ReadsNet x.a net ⊎ ReadsNet x.b net → d net bit ≡ e net bit) → output d x ≡ output e x
+cell_same x d e none h =
+    output_same x d e none (sig_same x.a d e (λ net bit r. h net bit (inl r))) (sig_same x.b d e (λ net bit r. h net bit (inr r)))
 
 unsigned : (s t : Bool) → s ≡ false → (s && t) ≡ false
 unsigned s t e = ap (λ b. b && t) e
 
-only_add : (o : Op) → o ≡ op.Add
-only_add op.Add = refl
-
 -- the output of an unsigned sum
-pub output_add : (x : Cell) (d : Digits) → x.a_signed ≡ false → x.b_signed ≡ false → output d x ≡ (sig_number d x.a + sig_number d x.b) % 2 ^ x.width
-output_add x d a b =
-    ap (λ s. modulo x.width (formula x.op (operand s (sig_width x.a) (sig_number d x.a)) (operand s (sig_width x.b) (sig_number d x.b)))) (unsigned x.a_signed x.b_signed a)
-    ∙ ap (λ f. modulo x.width (formula f (pos (sig_number d x.a)) (pos (sig_number d x.b)))) (only_add x.op)
+pub output_add : (x : Cell) (d : Digits) → x.op ≡ op.Add → x.a_signed ≡ false → x.b_signed ≡ false → output d x ≡ (sig_number d x.a + sig_number d x.b) % 2 ^ x.width
+output_add x d add a b =
+    ap (λ f. modulo x.width (formula f (inputs_of d x))) add
+    ∙ ap (λ s. modulo x.width (operand s (sig_width x.a) (sig_number d x.a) +ℤ operand s (sig_width x.b) (sig_number d x.b))) (unsigned x.a_signed x.b_signed a)
 
 -- the number of a signal is that of its first piece
 pub first_piece : (d : Digits) (nets : List ℕ) (ps : List Piece) (p : Piece) → IsWordSig nets ps → p ≡ get_or ps 0 p → piece_number d p ≡ sig_number d ps

@@ -5,21 +5,22 @@ use Rattle.std.proofs.Math.Nat.{pow-le-pow_right}
 use Rattle.sim_base.specs.BitValue.{bit_value, zeros}
 use Rattle.circuit.specs.declared.netlist.Circuit.{Circuit}
 use Rattle.circuit.specs.declared.netlist.Net.{Net}
-use Rattle.circuit.specs.declared.netlist.Reg.{Reg}
-use Rattle.circuit.specs.declared.netlist.RegKind.TheVariants as kind
-use Rattle.circuit.specs.declared.netlist.Cell.{Cell}
-use Rattle.circuit.specs.declared.netlist.Op.TheVariants as op
+use Rattle.circuit.specs.declared.register.Reg.{Reg}
+use Rattle.circuit.specs.declared.register.RegKind.TheVariants as kind
+use Rattle.circuit.specs.declared.cell.Cell.{Cell}
+use Rattle.circuit.specs.declared.cell.Op.TheVariants as op
 use Rattle.circuit.specs.declared.netlist.Drive.{Drive}
 use Rattle.circuit.specs.declared.netlist.By.{By}
 use Rattle.circuit.specs.declared.netlist.By.TheVariants as by
 use Rattle.circuit.specs.declared.netlist.Piece.{Piece}
 use Rattle.circuit.specs.declared.netlist.Piece.TheVariants as piece
+use Rattle.flat_design.specs.Cells.{rising_edge}
 use Rattle.flat_design.specs.Flat.{IsFlat}
 use Rattle.flat_rounds.specs.Fits.{AreInputs}
 use Rattle.flat_rounds.proofs.FlatTest.{flat_from_test, flat_test}
 
 abbrev pub made : List Net → List Drive → List Cell → List Reg → Circuit
-made nets drives cells regs = record { nets = nets; drives = drives; cells = cells; regs = regs; inputs = 0 ∷ 1 ∷ []; items = []; scopes = [] }
+made nets drives cells regs = record { nets = nets; drives = drives; cells = cells; regs = regs; mems = []; inputs = 0 ∷ 1 ∷ []; items = []; scopes = []; diags = [] }
 
 pub made_same : (ns ms : List Net) (ds es : List Drive) (cs xs : List Cell) (rs qs : List Reg) → ns ≡ ms → ds ≡ es → cs ≡ xs → rs ≡ qs → made ns ds cs rs ≡ made ms es xs qs
 made_same ns ms ds es cs xs rs qs a b c d =
@@ -35,10 +36,10 @@ abbrev pub whole : ℕ → ℕ → Piece
 whole n w = piece.Part n 0 w
 
 abbrev pub sum_cell : Piece → Piece → ℕ → Cell
-sum_cell a b w = record { op = op.Add; a = a ∷ []; b = b ∷ []; a_signed = false; b_signed = false; width = w }
+sum_cell a b w = record { op = op.Add; a = a ∷ []; b = b ∷ []; s = []; a_signed = false; b_signed = false; width = w; offset = 0 }
 
 abbrev pub register : Piece → Piece → ℕ → Reg
-register clk d w = record { kind = kind.Dff; width = w; clk = clk ∷ []; d = d ∷ []; pol = record { clk = true }; init = zeros w }
+register clk d w = record { kind = kind.Dff; width = w; clk = clk ∷ []; d = d ∷ []; en = []; set = []; clr = []; load = []; ad = []; pol = rising_edge; value = zeros w; init = zeros w }
 
 abbrev pub counter : Circuit
 counter = made (net 1 ∷ net 8 ∷ net 8 ∷ net 8 ∷ [])
@@ -47,7 +48,7 @@ counter = made (net 1 ∷ net 8 ∷ net 8 ∷ net 8 ∷ [])
     (register (whole 0 1) (whole 3 8) 8 ∷ [])
 
 pub counter_flat : IsFlat counter
-counter_flat = flat_from_test counter refl refl
+counter_flat = flat_from_test counter refl ((refl, refl), tt) (refl, tt) refl refl refl
 
 abbrev pub chain : ℕ → ℕ → Circuit
 chain clk from = made (net 1 ∷ net 1 ∷ net 1 ∷ net 1 ∷ [])
@@ -79,7 +80,7 @@ chain_test (suc (suc (suc zero))) (suc (suc (suc (suc n)))) a b = absurd (omega 
 chain_test (suc (suc (suc (suc n)))) from a b = absurd (omega (arith, a))
 
 pub chain_flat : (clk from : ℕ) → clk ≤ 3 → from ≤ 3 → IsFlat (chain clk from)
-chain_flat clk from a b = flat_from_test (chain clk from) (chain_test clk from a b) refl
+chain_flat clk from a b = flat_from_test (chain clk from) (chain_test clk from a b) tt (refl, (refl, tt)) refl refl refl
 
 abbrev pub ring : Circuit
 ring = made (net 1 ∷ net 1 ∷ net 1 ∷ net 1 ∷ net 1 ∷ net 1 ∷ net 1 ∷ net 1 ∷ [])
@@ -89,7 +90,7 @@ ring = made (net 1 ∷ net 1 ∷ net 1 ∷ net 1 ∷ net 1 ∷ net 1 ∷ net 1 �
     (register (whole 5 1) (whole 6 1) 1 ∷ register (whole 4 1) (whole 7 1) 1 ∷ [])
 
 pub ring_flat : IsFlat ring
-ring_flat = flat_from_test ring refl refl
+ring_flat = flat_from_test ring refl ((refl, refl), ((refl, refl), ((refl, refl), ((refl, refl), tt)))) (refl, (refl, tt)) refl refl refl
 
 two_bits : (xs : List ℕ) → length xs ≡ 2 → get_or xs 0 0 < 2 → get_or xs 1 0 < 2 → (n : ℕ) → slice_index xs n < 2
 two_bits [] l a b n = absurd (omega (arith, l))

@@ -4,8 +4,8 @@ use Rattle.circuit.specs.Signal.{Digits, digits_of_nets}
 use Rattle.circuit.specs.Output.{output}
 use Rattle.circuit.specs.declared.netlist.Circuit.{Circuit}
 use Rattle.circuit.specs.declared.netlist.Net.{Net}
-use Rattle.circuit.specs.declared.netlist.Reg.{Reg}
-use Rattle.circuit.specs.declared.netlist.Cell.{Cell}
+use Rattle.circuit.specs.declared.register.Reg.{Reg}
+use Rattle.circuit.specs.declared.cell.Cell.{Cell}
 use Rattle.circuit.specs.declared.netlist.Drive.{Drive}
 use Rattle.circuit.specs.declared.netlist.By.{By}
 use Rattle.circuit.specs.declared.netlist.By.TheVariants as by
@@ -31,6 +31,7 @@ number_given c regs inputs digits (by.Input n at) = slice_index inputs n
 number_given c regs inputs digits (by.Wire n at) = 0
 number_given c regs inputs digits (by.Cell n at) = cell_number digits (slice_get c.cells n)
 number_given c regs inputs digits (by.Reg n at) = slice_index regs n
+number_given c regs inputs digits (by.Read m n at) = 0
 
 -- each net has the number that its driver gives, and 0 where none does
 pub record AreGiven (c : Circuit) (regs inputs numbers : List ℕ) : Type 0 where
@@ -44,6 +45,7 @@ IsSource (by.Input n at) = Unit {0}
 IsSource (by.Wire n at) = Unit {0}
 IsSource (by.Cell n at) = ⊥
 IsSource (by.Reg n at) = Unit {0}
+IsSource (by.Read m n at) = Unit {0}
 
 -- no cell drives the net, and none of the drives from the i-th on
 abbrev pub IsSourced : Circuit → ℕ → ℕ → Type 0

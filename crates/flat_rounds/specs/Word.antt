@@ -1,6 +1,7 @@
 -- Signals and cells whose numbers are single words.
 use Rattle.std.specs.Prelude.{◌≡◌, ℕ, ◌<◌, ◌≤◌, ◌^◌, List, [], ◌∷◌, length, false, slice_index}
-use Rattle.circuit.specs.declared.netlist.Cell.{Cell}
+use Rattle.circuit.specs.declared.cell.Cell.{Cell}
+use Rattle.circuit.specs.declared.cell.Op.TheVariants as op
 use Rattle.circuit.specs.declared.netlist.Piece.{Piece}
 use Rattle.circuit.specs.declared.netlist.Piece.TheVariants as piece
 
@@ -15,8 +16,9 @@ IsWordSig nets [] = ⊥
 IsWordSig nets (p ∷ []) = IsWordPiece nets p
 IsWordSig nets (p ∷ q ∷ ps) = ⊥
 
--- an unsigned cell of such signals
+-- an unsigned adder of such signals
 pub record IsWordCell (nets : List ℕ) (x : Cell) : Type 0 where
+  pub op : x.op ≡ op.Add
   pub a : IsWordSig nets x.a
   pub b : IsWordSig nets x.b
   pub a_unsigned : x.a_signed ≡ false

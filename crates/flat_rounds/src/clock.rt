@@ -9,8 +9,9 @@ ghost use Rattle.flat_rounds.specs.Word.{IsWordSig};
 use crate::word::sig_word;
 use circuit::{Circuit, Reg, RegKind};
 
-/// The next number of a register.
+/// The next number of a plain register.
 fn next_word(reg: &Reg, before: &[u64], nets: &[u64], present: u64) -> u64
+    requires kind { reg.now.kind ≡ RegKind.Dff }
     requires clk_before { IsWordSig before.now reg.now.clk }
     requires clk { IsWordSig nets.now reg.now.clk }
     requires d { IsWordSig nets.now reg.now.d }
@@ -20,16 +21,12 @@ fn next_word(reg: &Reg, before: &[u64], nets: &[u64], present: u64) -> u64
     ensures below { result < 2 ^ reg.now.width }
 {
     let active = if reg.pol.clk { 1 } else { 0 };
-    match reg.kind {
-        RegKind::Dff => {
-            let was = sig_word(reg.clk.as_slice(), before);
-            let is = sig_word(reg.clk.as_slice(), nets);
-            if was != active && is == active {
-                sig_word(reg.d.as_slice(), nets)
-            } else {
-                present
-            }
-        }
+    let was = sig_word(reg.clk.as_slice(), before);
+    let is = sig_word(reg.clk.as_slice(), nets);
+    if was != active && is == active {
+        sig_word(reg.d.as_slice(), nets)
+    } else {
+        present
     }
 }
 

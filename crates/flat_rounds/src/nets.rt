@@ -1,5 +1,5 @@
 //! The number of each net in a round.
-ghost use Rattle.std.specs.Prelude.{◌≡◌, ℕ, List, length, slice_index};
+ghost use Rattle.std.specs.Prelude.{◌≡◌, ℕ, List, [], length, slice_index};
 ghost use Rattle.circuit.specs.Valuation.{valuation};
 ghost use Rattle.flat_design.specs.Flat.{IsFlat};
 ghost use Rattle.flat_rounds.specs.Fits.{AreInputs};
@@ -53,7 +53,7 @@ pub fn evaluate(circuit: &Circuit, inputs: &[u64], regs: &[u64], nets: &mut Vec<
     requires regs { AreRegNumbers circuit.now regs.now }
     requires long { length nets.old.items ≡ length circuit.now.nets }
     ensures nets { AreNetNumbers circuit.now nets.new.items }
-    ensures valuation { nets.new.items ≡ valuation circuit.now (record { regs = regs.now }) inputs.now }
+    ensures valuation { nets.new.items ≡ valuation circuit.now (record { regs = regs.now; mems = [] }) inputs.now }
 {
     one_valuation(circuit);
     nets.fill(0);

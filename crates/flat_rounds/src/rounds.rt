@@ -1,7 +1,8 @@
 //! Rounds and samples of a flat circuit.
 ghost use Rattle.std.specs.Prelude.{◌≡◌, ℕ, ◌<◌, true, false, Some, None, IfOk, length, replicate, slice_index};
 ghost use Rattle.circuit.specs.Next.{next};
-ghost use Rattle.circuit.specs.Run.{same_state, settled, start, start_state};
+ghost use Rattle.circuit.specs.Run.{settled, start, start_state};
+ghost use Rattle.circuit.specs.State.{same_state};
 ghost use Rattle.circuit.specs.Valuation.{valuation};
 ghost use Rattle.flat_design.specs.Flat.{IsFlat};
 ghost use Rattle.flat_rounds.specs.Fits.{AreInputs, IsStandingOf};
@@ -28,12 +29,12 @@ pub struct Rounds {
 }
 
 impl Model for Rounds {
-    ghost use Rattle.std.specs.Prelude.{◌≡◌, length};
+    ghost use Rattle.std.specs.Prelude.{◌≡◌, [], length};
     ghost use Rattle.circuit.specs.Run.{Standing};
 
     ghost Value = { Standing };
 
-    ghost view = { λ r. record { state = record { regs = r.regs.items }; nets = r.nets.items } };
+    ghost view = { λ r. record { state = record { regs = r.regs.items; mems = [] }; nets = r.nets.items } };
 
     ghost invariant = { λ r. (length r.next_regs.items ≡ length r.regs.items) × (length r.next_nets.items ≡ length r.nets.items) };
 }

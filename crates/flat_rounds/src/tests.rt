@@ -1,5 +1,6 @@
 ghost use Rattle.std.specs.Prelude.{◌≡◌, ℕ, ◌∷◌, [], ◌≤◌, true, false, IfOk};
 ghost use Rattle.sim_base.specs.BitValue.{bit_value, zeros};
+ghost use Rattle.flat_design.specs.Cells.{rising_edge};
 ghost use Rattle.flat_design.specs.Flat.{IsFlat};
 ghost use Rattle.flat_rounds.specs.Fits.{AreInputs};
 
@@ -47,27 +48,47 @@ fn drive(net: u32, width: u32, by: By) -> Drive
 }
 
 fn sum(alloc: Global, a: Piece, b: Piece, width: u32) -> Result<Cell, NoMemory>
-    ensures { IfOk result (λ x. x ≡ record { op = Op.Add; a = a ∷ []; b = b ∷ []; a_signed = false; b_signed = false; width = width }) }
+    ensures { IfOk result (λ x. x ≡ record { op = Op.Add; a = a ∷ []; b = b ∷ []; s = []; a_signed = false; b_signed = false; width = width; offset = 0 }) }
 {
     Ok(Cell {
         op: Op::Add,
         a: Items::from_vec(vec![in alloc; a]?),
         b: Items::from_vec(vec![in alloc; b]?),
+        s: Items::new(alloc),
         a_signed: false,
         b_signed: false,
         width,
+        offset: 0,
     })
 }
 
+fn rising_edge() -> Polarity
+    ensures { result ≡ rising_edge }
+{
+    Polarity {
+        clk: true,
+        en: true,
+        set: true,
+        clr: true,
+        load: true,
+    }
+}
+
 fn register(alloc: Global, clk: Piece, d: Piece, width: u32) -> Result<Reg, NoMemory>
-    ensures { IfOk result (λ r. r ≡ record { kind = RegKind.Dff; width = width; clk = clk ∷ []; d = d ∷ []; pol = record { clk = true }; init = zeros width }) }
+    ensures { IfOk result (λ r. r ≡ record { kind = RegKind.Dff; width = width; clk = clk ∷ []; d = d ∷ []; en = []; set = []; clr = []; load = []; ad = []; pol = rising_edge; value = zeros width; init = zeros width }) }
 {
     Ok(Reg {
         kind: RegKind::Dff,
         width,
         clk: Items::from_vec(vec![in alloc; clk]?),
         d: Items::from_vec(vec![in alloc; d]?),
-        pol: Polarity { clk: true },
+        en: Items::new(alloc),
+        set: Items::new(alloc),
+        clr: Items::new(alloc),
+        load: Items::new(alloc),
+        ad: Items::new(alloc),
+        pol: rising_edge(),
+        value: Bits::zero(alloc, width)?,
         init: Bits::zero(alloc, width)?,
     })
 }
@@ -80,16 +101,18 @@ fn assembled(
     cells: Vec<Cell>,
     regs: Vec<Reg>,
 ) -> Result<Circuit, NoMemory>
-    ensures { IfOk result (λ c. c ≡ record { nets = nets.items; drives = drives.items; cells = cells.items; regs = regs.items; inputs = 0 ∷ 1 ∷ []; items = []; scopes = [] }) }
+    ensures { IfOk result (λ c. c ≡ record { nets = nets.items; drives = drives.items; cells = cells.items; regs = regs.items; mems = []; inputs = 0 ∷ 1 ∷ []; items = []; scopes = []; diags = [] }) }
 {
     Ok(Circuit {
         nets: Items::from_vec(nets),
         drives: Items::from_vec(drives),
         cells: Items::from_vec(cells),
         regs: Items::from_vec(regs),
+        mems: Items::new(alloc),
         inputs: Items::from_vec(vec![in alloc; 0, 1]?),
         items: Items::new(alloc),
         scopes: Items::new(alloc),
+        diags: Items::new(alloc),
     })
 }
 

@@ -4,7 +4,7 @@ ghost use Rattle.circuit.specs.Output.{output};
 ghost use Rattle.circuit.specs.Signal.{digits_of_nets, piece_number, piece_width, sig_number, sig_width};
 ghost use Rattle.flat_rounds.specs.Word.{IsWordCell, IsWordPiece, IsWordSig};
 
-use circuit::{Cell, Op, Piece};
+use circuit::{Cell, Piece};
 
 fn piece_word(piece: &Piece, nets: &[u64]) -> u64
     requires { IsWordPiece nets.now piece.now }
@@ -40,7 +40,7 @@ fn mask(width: u32) -> u64
     }
 }
 
-/// The number that an unsigned cell gives.
+/// The number that an unsigned adder gives.
 pub fn cell_word(cell: &Cell, nets: &[u64]) -> u64
     requires { IsWordCell nets.now cell.now }
     ensures value { result ≡ output (digits_of_nets nets.now) cell.now }
@@ -48,7 +48,5 @@ pub fn cell_word(cell: &Cell, nets: &[u64]) -> u64
 {
     let a = sig_word(cell.a.as_slice(), nets);
     let b = sig_word(cell.b.as_slice(), nets);
-    match cell.op {
-        Op::Add => a.wrapping_add(b) & mask(cell.width),
-    }
+    a.wrapping_add(b) & mask(cell.width)
 }

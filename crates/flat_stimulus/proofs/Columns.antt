@@ -5,13 +5,14 @@ use Rattle.std.specs.Option.{option_map}
 use Rattle.flat_stimulus.specs.Text.{column_onto, columns_among, numbers_of_columns}
 use Rattle.flat_stimulus.specs.declared.column.Column.{Column}
 use Rattle.circuit.specs.declared.netlist.Circuit.{Circuit}
-use Rattle.circuit.specs.declared.netlist.Item.{Item}
-use Rattle.circuit.specs.declared.netlist.ItemKind.{ItemKind}
-use Rattle.circuit.specs.declared.netlist.ItemKind.TheVariants as item
+use Rattle.circuit.specs.declared.item.Item.{Item}
+use Rattle.circuit.specs.declared.item.ItemKind.{ItemKind}
+use Rattle.circuit.specs.declared.item.ItemKind.TheVariants as item
 
 onto_is : (c : Circuit) (name : List ℕ) (k : ItemKind) (more : List Column) → column_onto c name k more ≡ column_onto c name k [] ++ more
 onto_is c name (item.Node net lsb_at true output) more = refl
 onto_is c name (item.Node net lsb_at false output) more = refl
+onto_is c name (item.Memory m) more = refl
 
 pub among_cons : (c : Circuit) (i : Item) (is : List Item) → columns_among c (i ∷ is) ≡ columns_among c (i ∷ []) ++ columns_among c is
 unfolding columns_among

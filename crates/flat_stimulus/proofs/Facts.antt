@@ -11,9 +11,9 @@ use Rattle.sim_base.specs.BitValue.{hexadecimal_value}
 use Rattle.sim_base.specs.TimeText.{largest_time, read_time, time_of}
 use Rattle.circuit.specs.declared.netlist.Circuit.{Circuit}
 use Rattle.circuit.specs.declared.netlist.Net.{Net}
-use Rattle.circuit.specs.declared.netlist.Item.{Item}
-use Rattle.circuit.specs.declared.netlist.ItemKind.{ItemKind}
-use Rattle.circuit.specs.declared.netlist.ItemKind.TheVariants as item
+use Rattle.circuit.specs.declared.item.Item.{Item}
+use Rattle.circuit.specs.declared.item.ItemKind.{ItemKind}
+use Rattle.circuit.specs.declared.item.ItemKind.TheVariants as item
 use Rattle.flat_design.specs.Flat.{width_of, IsFlat}
 use Rattle.flat_stimulus.specs.Block.{Block, no_row, row_of, sample_count}
 use Rattle.flat_stimulus.specs.Text.{AreWordColumns, block_of, block_of_lines, checked_row, limited, column_onto, columns_among, columns_of, numbers_of_columns, row_from, row_in, rows_in, values_of}
@@ -145,6 +145,7 @@ onto_width c name (item.Node net lsb_at true output) more rest zero x at =
     subst (λ (y : Column). y.width ≡ width_of (slice_get c.nets y.net)) s refl
 onto_width c name (item.Node net lsb_at true output) more rest (suc j) x at = rest j x at
 onto_width c name (item.Node net lsb_at false output) more rest j x at = rest j x at
+onto_width c name (item.Memory m) more rest j x at = rest j x at
 
 columns_width : (c : Circuit) (is : List Item) (j : ℕ) (x : Column) → slice_get (columns_among c is) j ≡ Some x → x.width ≡ width_of (slice_get c.nets x.net)
 unfolding columns_among

@@ -6,9 +6,9 @@ use Rattle.sim_base.specs.BitValue.{hexadecimal_value}
 use Rattle.sim_base.specs.Digits.{digits_number}
 use Rattle.sim_base.specs.TimeText.{largest_time, read_time}
 use Rattle.circuit.specs.declared.netlist.Circuit.{Circuit}
-use Rattle.circuit.specs.declared.netlist.Item.{Item}
-use Rattle.circuit.specs.declared.netlist.ItemKind.{ItemKind}
-use Rattle.circuit.specs.declared.netlist.ItemKind.TheVariants as item
+use Rattle.circuit.specs.declared.item.Item.{Item}
+use Rattle.circuit.specs.declared.item.ItemKind.{ItemKind}
+use Rattle.circuit.specs.declared.item.ItemKind.TheVariants as item
 use Rattle.flat_design.specs.Flat.{width_of}
 use Rattle.flat_stimulus.specs.declared.row.BlockRow.{BlockRow}
 use Rattle.flat_stimulus.specs.declared.column.Column.{Column}
@@ -18,6 +18,7 @@ use Rattle.flat_stimulus.specs.Words.{lines_of, words_of}
 abbrev pub column_onto : Circuit → List ℕ → ItemKind → List Column → List Column
 column_onto c name (item.Node net lsb_at input output) more =
     if input then record { name = name; net = net; width = width_of (slice_get c.nets net) } ∷ more else more
+column_onto c name (item.Memory m) more = more
 
 -- the items that are inputs, in their order
 unfoldable pub columns_among : Circuit → List Item → List Column

@@ -58,7 +58,9 @@ fn push_column(
     requires { IsNodeOf circuit.now item.now.kind }
     ensures { IfOk result (λ _. columns.new.items ≡ columns.old.items ++ columns_among circuit.now (item.now ∷ [])) }
 {
-    let ItemKind::Node { net, input, .. } = item.kind;
+    let ItemKind::Node { net, input, .. } = item.kind else {
+        return Ok(());
+    };
     if input {
         columns.push(column_of(alloc, circuit, &item.name, net)?)?;
     }

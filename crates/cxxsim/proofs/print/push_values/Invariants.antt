@@ -5,4 +5,4 @@ use Rattle.cxxsim.specs.TraceText.{item_width, value_text}
 use Rattle.cxxsim.proofs.print.push_values.Given as goal
 
 abbrev pub invariant-loop-item : goal.invariant-loop-item
-invariant-loop-item l = l.text.items ≡ l.initial.text.items ++ flat_map (λ i. value_text (item_width l.circuit i) (item_number l.rounds.nets i.kind)) (take l.item-index l.item-items)
+invariant-loop-item l = l.text.items ≡ l.initial.text.items ++ flat_map (λ i. value_text (item_width l.circuit i) (item_number l.rounds i.kind 0)) (take l.item-index l.item-items)

@@ -1,4 +1,4 @@
-use Rattle.std.proofs.Common.{ℕ, ◌∙◌, ap, length, arith}
+use Rattle.std.proofs.Common.{ℕ, [], ◌∙◌, ap, length, arith}
 use Rattle.std.specs.Prelude.{slice_index}
 use Rattle.std.proofs.lemmas.List.{length-replicate}
 use Rattle.circuit.specs.Valuation.{valuation}
@@ -21,10 +21,10 @@ put_sources-requires-clause-nets c =
 
 pub returns-clause-valuation : goal.returns-clause-valuation
 returns-clause-valuation c =
-    let given = valuation_given c.args.circuit.now (record { regs = c.args.regs.now }) c.args.inputs.now c.requires.flat c.requires.inputs c.requires.regs
-    (c.one_valuation.ensures.valuation (record { regs = c.args.regs.now }) c.args.inputs.now)
-    (c.one_valuation.ensures.driver (record { regs = c.args.regs.now }) c.args.inputs.now) in
-    let numbers = valuation c.args.circuit.now (record { regs = c.args.regs.now }) c.args.inputs.now in
-    all_right c.args.circuit.now c.put_cells.new.nets.items numbers c.put_cells.ensures.nets.long (valuation_fits c.args.circuit.now (record { regs = c.args.regs.now }) c.args.inputs.now).long
+    let given = valuation_given c.args.circuit.now (record { regs = c.args.regs.now; mems = [] }) c.args.inputs.now c.requires.flat c.requires.inputs c.requires.regs
+    (c.one_valuation.ensures.valuation (record { regs = c.args.regs.now; mems = [] }) c.args.inputs.now)
+    (c.one_valuation.ensures.driver (record { regs = c.args.regs.now; mems = [] }) c.args.inputs.now) in
+    let numbers = valuation c.args.circuit.now (record { regs = c.args.regs.now; mems = [] }) c.args.inputs.now in
+    all_right c.args.circuit.now c.put_cells.new.nets.items numbers c.put_cells.ensures.nets.long (valuation_fits c.args.circuit.now (record { regs = c.args.regs.now; mems = [] }) c.args.inputs.now).long
     (c.put_cells.ensures.right c.args.regs.now c.args.inputs.now numbers given
     (sources_first c.args.circuit.now c.put_sources.new.nets.items numbers (λ n. c.put_sources.ensures.right numbers n given)))

@@ -1,10 +1,12 @@
-use Rattle.std.proofs.Common.{◌≡◌, ◌∙◌, ap, length, subst, refl, arith, Some}
+use Rattle.std.proofs.Common.{◌≡◌, sym, ◌∙◌, ap, length, subst, refl, arith, Some}
 use Rattle.std.specs.Prelude.{slice_get}
 use Rattle.std.proofs.lemmas.Option.{slice_get_read, slice_get_within}
 use Rattle.circuit.specs.Signal.{digits_of_nets}
 use Rattle.circuit.specs.Output.{output}
-use Rattle.flat_rounds.proofs.Pass.{cell_fits, cell_right, cell_skip, drive_cell}
+use Rattle.flat_rounds.proofs.Pass.{cell_fits, cell_right, cell_skip, drive_cell, there}
+use Rattle.flat_rounds.proofs.Reading.{word_cell}
 use Rattle.flat_rounds.specs.Pass.{IsEvaluated}
+use Rattle.flat_rounds.specs.Word.{IsWordCell}
 use Rattle.flat_rounds.proofs.nets.put_cells.Goals as goal
 use Rattle.flat_rounds.proofs.nets.put_cells.Goals.{in-Cell, in_default}
 
@@ -12,6 +14,23 @@ drive_is : (c : goal.Joined-drive) → slice_get c.args.circuit.now.drives c.loo
 drive_is c =
     subst (λ ds. slice_get ds c.loop-drive.drive-index ≡ Some c.drive-item.result) c.as_slice-drive-items.ensures
     (slice_get_read c.as_slice-drive-items.result.now (length c.as_slice-drive-items.result.now) c.loop-drive.drive-index c.drive-item.result refl (omega arith) c.drive-item.is)
+
+pub cell_word-word-requires : goal.cell_word-word-requires
+cell_word-word-requires c =
+    let at = subst (λ ds. slice_get ds c.loop-drive.drive-index ≡ Some c.drive-item.result) c.as_slice-drive-items.ensures
+    (slice_get_read c.as_slice-drive-items.result.now (length c.as_slice-drive-items.result.now) c.loop-drive.drive-index c.drive-item.result refl (omega arith) c.drive-item.is) in
+    let cell = drive_cell c.args.circuit.now c.requires.flat c.loop-drive.drive-index c.in-Cell.n c.in-Cell.field-1 c.drive-item.result at c.in-Cell.is in
+    let is = subst (λ xs. slice_get xs c.in-Cell.n ≡ Some c.index-cells-n.result) c.as_slice-cells.ensures
+    (slice_get_read c.as_slice-cells.result.now (length c.as_slice-cells.result.now) c.in-Cell.n c.index-cells-n.result refl
+    (omega (arith, slice_get_within c.args.circuit.now.cells c.in-Cell.n cell.0 cell.1, ap length c.as_slice-cells.ensures)) c.index-cells-n.is) in
+    subst (λ ns. IsWordCell ns c.index-cells-n.result) (sym c.deref.ensures.value)
+    (word_cell c.args.circuit.now c.loop-drive.nets.items c.index-cells-n.result c.loop-drive.invariant.fits (c.requires.flat.cells c.in-Cell.n c.index-cells-n.result is))
+
+pub index_mut-requires : goal.index_mut-requires
+index_mut-requires c =
+    let at = subst (λ ds. slice_get ds c.loop-drive.drive-index ≡ Some c.drive-item.result) c.as_slice-drive-items.ensures
+    (slice_get_read c.as_slice-drive-items.result.now (length c.as_slice-drive-items.result.now) c.loop-drive.drive-index c.drive-item.result refl (omega arith) c.drive-item.is) in
+    omega (arith, c.loop-drive.nets.ok.0, there c.args.circuit.now c.requires.flat c.loop-drive.nets.items c.loop-drive.invariant.fits c.loop-drive.drive-index c.drive-item.result at)
 
 pub loop-drive-preserved : goal.loop-drive-preserved
 loop-drive-preserved c =

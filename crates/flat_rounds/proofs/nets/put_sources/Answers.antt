@@ -1,4 +1,4 @@
-use Rattle.std.proofs.Common.{◌≡◌, ap, length, subst, refl, arith, Some}
+use Rattle.std.proofs.Common.{◌≡◌, [], ap, length, subst, refl, arith, Some}
 use Rattle.std.specs.Prelude.{slice_get}
 use Rattle.std.proofs.lemmas.Option.{slice_get_read}
 use Rattle.circuit.specs.declared.netlist.By.TheVariants as by
@@ -24,13 +24,13 @@ loop-drive-preserved c =
     let h = c.requires.flat.drives c.loop-drive.drive-index c.drive-item.result at in
     elim c.match-drive.branch [
       | in-Input w ↦ rw (w.nets-is) (record {
-        fits = source_fits c.args.circuit.now (record { regs = c.args.regs.now }) c.args.inputs.now c.requires.flat c.requires.inputs c.requires.regs c.loop-drive.nets.items c.loop-drive.invariant.fits
+        fits = source_fits c.args.circuit.now (record { regs = c.args.regs.now; mems = [] }) c.args.inputs.now c.requires.flat c.requires.inputs c.requires.regs c.loop-drive.nets.items c.loop-drive.invariant.fits
             c.loop-drive.drive-index _ c.drive-item.result (by.Input w.in-Input.n w.in-Input.field-1) at w.in-Input.is refl;
         right = λ numbers are. source_right c.args.circuit.now c.args.regs.now c.args.inputs.now c.loop-drive.nets.items numbers c.requires.flat c.loop-drive.invariant.fits are
             c.loop-drive.drive-index _ c.drive-item.result (by.Input w.in-Input.n w.in-Input.field-1) at w.in-Input.is refl (c.loop-drive.invariant.right numbers are);
       })
       | in-Reg w ↦ rw (w.nets-is) (record {
-        fits = source_fits c.args.circuit.now (record { regs = c.args.regs.now }) c.args.inputs.now c.requires.flat c.requires.inputs c.requires.regs c.loop-drive.nets.items c.loop-drive.invariant.fits
+        fits = source_fits c.args.circuit.now (record { regs = c.args.regs.now; mems = [] }) c.args.inputs.now c.requires.flat c.requires.inputs c.requires.regs c.loop-drive.nets.items c.loop-drive.invariant.fits
             c.loop-drive.drive-index _ c.drive-item.result (by.Reg w.in-Reg.n w.in-Reg.field-1) at w.in-Reg.is refl;
         right = λ numbers are. source_right c.args.circuit.now c.args.regs.now c.args.inputs.now c.loop-drive.nets.items numbers c.requires.flat c.loop-drive.invariant.fits are
             c.loop-drive.drive-index _ c.drive-item.result (by.Reg w.in-Reg.n w.in-Reg.field-1) at w.in-Reg.is refl (c.loop-drive.invariant.right numbers are);

@@ -3,7 +3,7 @@ use Rattle.std.specs.Prelude.{slice_get, slice_index}
 use Rattle.std.proofs.lemmas.Bool.{cases_eq}
 use Rattle.std.proofs.lemmas.List.{map_more, take_all, get_or-map, length-map}
 use Rattle.std.proofs.lemmas.Option.{slice_get_read, slice_get_within, get_or_from_slice_get}
-use Rattle.circuit.specs.declared.netlist.Reg.{Reg}
+use Rattle.circuit.specs.declared.register.Reg.{Reg}
 use Rattle.flat_rounds.proofs.Words.{whole_field}
 use Rattle.flat_rounds.proofs.rounds.start_regs.Goals as goal
 

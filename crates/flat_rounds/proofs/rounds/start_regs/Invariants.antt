@@ -1,6 +1,6 @@
 use Rattle.std.proofs.Common.{◌≡◌, ℕ, ◌<◌, ◌^◌, map, take, Some}
 use Rattle.std.specs.Prelude.{slice_get}
-use Rattle.circuit.specs.declared.netlist.Reg.{Reg}
+use Rattle.circuit.specs.declared.register.Reg.{Reg}
 use Rattle.flat_rounds.proofs.rounds.start_regs.Given as goal
 
 abbrev pub invariant-loop-reg : goal.invariant-loop-reg

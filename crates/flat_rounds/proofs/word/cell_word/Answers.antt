@@ -12,4 +12,4 @@ returns-clause-value c =
     ap (bit_and ((c.sig_word-a.result + c.sig_word-b.result) % 2 ^ 64)) c.mask.ensures ∙ and_mask ((c.sig_word-a.result + c.sig_word-b.result) % 2 ^ 64) c.args.cell.now.width
     ∙ low_of_low (c.sig_word-a.result + c.sig_word-b.result) c.args.cell.now.width c.requires.width
     ∙ ap (λ n. (n + c.sig_word-b.result) % 2 ^ c.args.cell.now.width) a ∙ ap (λ n. (sig_number (digits_of_nets c.args.nets.now) c.args.cell.now.a + n) % 2 ^ c.args.cell.now.width) b
-    ∙ sym (output_add c.args.cell.now (digits_of_nets c.args.nets.now) c.requires.a_unsigned c.requires.b_unsigned)
+    ∙ sym (output_add c.args.cell.now (digits_of_nets c.args.nets.now) c.requires.op c.requires.a_unsigned c.requires.b_unsigned)

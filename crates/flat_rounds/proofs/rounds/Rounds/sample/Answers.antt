@@ -12,7 +12,7 @@ loop-round-preserved c =
     record {
       fits = c.round.ensures.fits;
       rest =
-          sym (goes_on c.args.circuit.now c.loop-round.self c.round.new.self c.args.inputs.now c.round.ensures.nets c.round.ensures.state (256 - (c.loop-round._round + 1)) (sym c.round.ensures.still ∙ c.if-round.false))
+          sym (goes_on c.args.circuit.now c.loop-round.self c.round.new.self c.args.inputs.now c.loop-round.invariant.fits.mems c.round.ensures.fits.mems c.round.ensures.nets c.round.ensures.state (256 - (c.loop-round._round + 1)) (sym c.round.ensures.still ∙ c.if-round.false))
           ∙ sym (ap (λ n. settled_within n c.args.circuit.now c.loop-round.self.state c.loop-round.self.nets c.args.inputs.now) left)
           ∙ c.loop-round.invariant.rest;
     }
@@ -22,7 +22,7 @@ returns-then-round-clause-settled c done =
     let left : 256 - c.loop-round._round ≡ suc (256 - (c.loop-round._round + 1)) = omega arith in
     sym c.loop-round.invariant.rest
     ∙ ap (λ n. settled_within n c.args.circuit.now c.loop-round.self.state c.loop-round.self.nets c.args.inputs.now) left
-    ∙ settles c.args.circuit.now c.loop-round.self c.round.new.self c.args.inputs.now c.round.ensures.nets c.round.ensures.state (256 - (c.loop-round._round + 1)) (sym c.round.ensures.still ∙ c.if-round.true)
+    ∙ settles c.args.circuit.now c.loop-round.self c.round.new.self c.args.inputs.now c.loop-round.invariant.fits.mems c.round.ensures.fits.mems c.round.ensures.nets c.round.ensures.state (256 - (c.loop-round._round + 1)) (sym c.round.ensures.still ∙ c.if-round.true)
 
 pub returns-clause-unsettled : goal.returns-clause-unsettled
 returns-clause-unsettled c done =
