@@ -217,7 +217,9 @@ mod tests {
         }
         feed_until_it_is_taken(&mut framer, b"bcd\0")?;
         let last = framer.take();
-        assert!(rt; matches!(last, Frame::Whole(last) if last.len() == 3002 && last[0] == 40 && last.ends_with(b"abcd")));
+        assert!(rt;
+            matches!(last, Frame::Whole(last) if last.len() == 3002 && last[0] == 40 && last.ends_with(b"abcd"))
+        );
         assert_eq!(rt; framer.take(), Frame::NotYet);
         Ok(())
     }
