@@ -1,5 +1,6 @@
 pub mod Replay
 pub mod Legal
+pub mod Facts
 pub mod Laws
 pub mod LogText
 pub mod Hall

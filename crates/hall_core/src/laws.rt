@@ -1,8 +1,10 @@
 //! Laws of histories. A function here does nothing: its contract is the law.
-ghost use Rattle.std.specs.Prelude.{◌≡◌, ◌≢◌, ◌≤◌, ◌⊎◌, ℕ, List, [], ◌∷◌, ◌++◌, length, true, false};
+ghost use Rattle.std.specs.Prelude.{◌≡◌, ◌≢◌, ◌<◌, ◌≤◌, is_some, ◌⊎◌, ℕ, List, [], ◌∷◌, ◌++◌, length, true, false};
 ghost use Rattle.std.specs.List.{list_any};
 ghost use Rattle.hall_core.specs.declared.entry.Entry.{Entry};
 ghost use Rattle.hall_core.specs.declared.entry.Goal.TheVariants.{Hold as Held};
+ghost use Rattle.circuit.specs.Run.{Run, standing_at};
+ghost use Rattle.hall_core.specs.Facts.{facts_of};
 ghost use Rattle.hall_core.specs.Laws.{AllSmall, BeginsWithSample, IsUnsettledAtOnce, Taken, is_recording, is_run, is_there};
 ghost use Rattle.hall_core.specs.Legal.{Legal, RunFacts, allowed, is_open};
 ghost use Rattle.hall_core.specs.LogText.{log_text};
@@ -27,6 +29,12 @@ pub fn law_of_steps()
 pub fn law_of_progress()
     ensures never_falls { (before more : List Entry) → (replay before).n ≤ (replay (before ++ more)).n }
     ensures never_passes { (run : RunFacts) → (history : List Entry) → Legal run history → (replay history).n ≤ run.length }
+{}
+
+/// In a legal history of a circuit under its samples each sample that is recorded settles.
+pub fn law_of_runs()
+    ensures { (run : Run) → (history : List Entry) → (k : ℕ)
+        → Legal (facts_of run) history → k < (replay history).n → is_some (standing_at run k) ≡ true }
 {}
 
 /// Whatever comes after the goal is held, nothing is recorded until a run is asked for.

@@ -13,7 +13,7 @@ pub use hall::Hall;
 pub use history::History;
 pub use laws::{
     law_of_beginnings, law_of_clients, law_of_first_entries, law_of_goals, law_of_hold,
-    law_of_logs, law_of_progress, law_of_steps,
+    law_of_logs, law_of_progress, law_of_runs, law_of_steps,
 };
 pub use log::log_text;
 
