@@ -1,6 +1,6 @@
 use crate::{
     Act, Entry, Goal, Hall, History, Why, law_of_beginnings, law_of_clients, law_of_first_entries,
-    law_of_goals, law_of_hold, law_of_logs, law_of_progress, law_of_steps, log_text,
+    law_of_goals, law_of_hold, law_of_logs, law_of_progress, law_of_runs, law_of_steps, log_text,
 };
 use sim_base::Kinds;
 use std::alloc::Global;
@@ -162,6 +162,66 @@ fn a_run_stops_at_a_hit(rt: HostRuntime) -> Result<(), Fail> {
             (Entry::Record(1, true), 5, Goal::Hold),
         ],
         "record 1\nopen 0\nopen 1\npacket 1 run 9 assert\nrecord 2\nrecord 1 hit\npacket 0 run 5 assume\nrecord 1 hit\n",
+    )
+}
+
+/// Where an assertion fires at samples 3 and 4 of six, a run that stops at assertions stops there and
+/// goes to the end behind them, while one that stops at assumptions goes to the end at once.
+#[test]
+fn runs_that_stop_at_assertions_or_assumptions(rt: HostRuntime) -> Result<(), Fail> {
+    let assumes = Kinds {
+        asserts: false,
+        assumes: true,
+    };
+    goes(
+        &rt,
+        rt.alloc(),
+        6,
+        &[
+            (Entry::Record(1, false), 1, Goal::Hold),
+            (Entry::Open(0), 1, Goal::Hold),
+            (Entry::Packet(0, LOOK), 1, Goal::Hold),
+            (
+                Entry::Packet(0, Act::Run(6, ASSERTS)),
+                1,
+                Goal::To(6, ASSERTS),
+            ),
+            (Entry::Record(3, true), 4, Goal::Hold),
+            (
+                Entry::Packet(0, Act::Run(6, ASSERTS)),
+                4,
+                Goal::To(6, ASSERTS),
+            ),
+            (Entry::Record(1, true), 5, Goal::Hold),
+            (
+                Entry::Packet(0, Act::Run(6, ASSERTS)),
+                5,
+                Goal::To(6, ASSERTS),
+            ),
+            (Entry::Record(1, false), 6, Goal::Hold),
+            (Entry::Close(0, Why::Ended), 6, Goal::Hold),
+            (Entry::End, 6, Goal::Over),
+        ],
+        "record 1\nopen 0\npacket 0\npacket 0 run 6 assert\nrecord 3 hit\npacket 0 run 6 assert\nrecord 1 hit\npacket 0 run 6 assert\nrecord 1\nclose 0 ended\nend\n",
+    )?;
+    goes(
+        &rt,
+        rt.alloc(),
+        6,
+        &[
+            (Entry::Record(1, false), 1, Goal::Hold),
+            (Entry::Open(0), 1, Goal::Hold),
+            (Entry::Packet(0, LOOK), 1, Goal::Hold),
+            (
+                Entry::Packet(0, Act::Run(6, assumes)),
+                1,
+                Goal::To(6, assumes),
+            ),
+            (Entry::Record(5, false), 6, Goal::Hold),
+            (Entry::Close(0, Why::Ended), 6, Goal::Hold),
+            (Entry::End, 6, Goal::Over),
+        ],
+        "record 1\nopen 0\npacket 0\npacket 0 run 6 assume\nrecord 5\nclose 0 ended\nend\n",
     )
 }
 
@@ -341,6 +401,7 @@ fn steps_that_room_was_made_for(rt: HostRuntime) -> Result<(), Fail> {
     law_of_hold();
     law_of_logs();
     law_of_progress();
+    law_of_runs();
     law_of_steps();
     Ok(())
 }
