@@ -3,3 +3,4 @@ pub mod Sigs
 pub mod Statements
 pub mod Processes
 pub mod Modules
+pub mod Attributes

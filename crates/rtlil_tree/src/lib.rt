@@ -3,6 +3,7 @@
 #![tactic(auto)]
 
 mod action;
+mod attribute;
 mod cursor;
 mod draft;
 mod file;
@@ -15,6 +16,7 @@ mod statement;
 #[cfg(test)]
 mod tests;
 
+pub use attribute::attribute_value;
 pub use file::parse;
 pub use module::{
     Assignment, Attribute, Cell, Connection, File, Memory, MemoryOptions, Module, Parameter,
