@@ -12,6 +12,8 @@ mod netlist;
 mod register;
 mod shape;
 mod store;
+#[cfg(test)]
+mod tests;
 mod validity;
 mod worked;
 
