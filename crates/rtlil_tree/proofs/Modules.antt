@@ -5,12 +5,11 @@ use Rattle.rtlil_tree.specs.declared.module.Attribute.{Attribute}
 use Rattle.rtlil_tree.specs.declared.module.Statement.TheVariants as statement
 use Rattle.rtlil_tree.specs.declared.draft.Statements.{Statements}
 use Rattle.rtlil_tree.specs.declared.draft.Modules.{Modules}
-use Rattle.rtlil_tree.specs.Input.{Rule, ◌<$>◌, pure, refuse, sees, sees_word, repeated}
+use Rattle.rtlil_tree.specs.Input.{Rule, ◌<$>◌, pure, refuse, sees, sees_word}
 use Rattle.rtlil_tree.specs.Processes.{process}
 use Rattle.rtlil_tree.specs.Modules.{statement_with, statement_line, module_line, module_lines, module_with, module_part, file_line}
-use Rattle.rtlil_tree.specs.Turns.{Enough}
 use Rattle.rtlil_tree.proofs.Leaves.{Takes, Shrinks, Step, one, stepped, pure_shrinks, more_shrinks, stop_step, stop_shrinks, then_step, then_shrinks, on_step, word_step, word_takes, if_leaves, place_leaves, takes_shrinks, refuse_leaves}
-use Rattle.rtlil_tree.proofs.Repeated.{Ends, enough, up_to_end_shrinks}
+use Rattle.rtlil_tree.proofs.Repeated.{Ends, up_to_end_shrinks}
 use Rattle.rtlil_tree.proofs.Tokens.{identifier_takes, integer_takes, expect_takes}
 use Rattle.rtlil_tree.proofs.Statements.{attribute_shrinks, assignment_shrinks, parameter_shrinks, wire_shrinks, memory_shrinks, cell_shrinks}
 use Rattle.rtlil_tree.proofs.Processes.{process_shrinks}
@@ -28,11 +27,11 @@ statement_takes waiting =
     word_takes _ _ _ (mapped statement.Connect _ assignment_shrinks) (
     place_leaves one _ (λ at. word_takes (codes "process") (statement.Process <$> process at) refuse (mapped statement.Process _ (process_shrinks at)) (refuse_leaves one)))))))
 
-statement_line_steps : (draft : Statements) → Step (statement_line draft)
+pub statement_line_steps : (draft : Statements) → Step (statement_line draft)
 unfolding statement_line
 statement_line_steps draft = then_step _ _ (statement_takes draft.waiting) (λ s. more_shrinks _)
 
-module_line_steps : (draft : Statements) → Step (module_line draft)
+pub module_line_steps : (draft : Statements) → Step (module_line draft)
 unfolding module_line
 module_line_steps draft =
     on_step _ _ _ (more_shrinks draft) (
@@ -40,12 +39,9 @@ module_line_steps draft =
     word_step _ _ _ (then_shrinks _ _ (takes_shrinks _ (expect_takes sign.EndOfLine)) (λ _. stop_shrinks draft)) (
     statement_line_steps draft)))
 
-module_lines_end : Ends module_line (λ _. refuse)
-unfolding repeated module_line statement_line statement_with sees sees_word
-module_lines_end turns state end = refl
-
-pub module_lines_enough : Enough module_line (λ _. refuse)
-module_lines_enough = enough module_line (λ _. refuse) module_line_steps module_lines_end
+pub module_lines_end : Ends module_line (λ _. refuse)
+unfolding module_line statement_line statement_with sees sees_word
+module_lines_end state end = refl
 
 module_lines_shrink : Shrinks module_lines
 unfolding module_lines
@@ -63,7 +59,7 @@ module_part_shrinks : (draft : Modules) → Shrinks (module_part draft)
 unfolding module_part
 module_part_shrinks draft = then_shrinks _ _ (module_with_shrinks draft.waiting) (λ m. more_shrinks _)
 
-file_line_steps : (draft : Modules) → Step (file_line draft)
+pub file_line_steps : (draft : Modules) → Step (file_line draft)
 unfolding file_line
 file_line_steps draft = if_leaves stepped (λ i. length i.rest == 0) _ _ (stop_step draft) (
     on_step _ _ _ (more_shrinks draft) (
@@ -72,9 +68,6 @@ file_line_steps draft = if_leaves stepped (λ i. length i.rest == 0) _ _ (stop_s
     word_step _ _ _ (module_part_shrinks draft) (
     refuse_leaves stepped)))))
 
-file_lines_end : Ends file_line pure
-unfolding repeated file_line
-file_lines_end turns state end = refl
-
-pub file_lines_enough : Enough file_line pure
-file_lines_enough = enough file_line pure file_line_steps file_lines_end
+pub file_lines_end : Ends file_line pure
+unfolding file_line
+file_lines_end state end = refl

@@ -9,18 +9,17 @@ use Rattle.rtlil_tree.specs.declared.process.Action.{Action}
 use Rattle.rtlil_tree.specs.declared.process.Switch.{Switch}
 use Rattle.rtlil_tree.specs.declared.process.Case.{Case}
 use Rattle.rtlil_tree.specs.declared.process.Sync.{Sync}
-use Rattle.rtlil_tree.specs.Input.{Rule, pure, refuse, sees, sees_word, repeated}
+use Rattle.rtlil_tree.specs.Input.{Rule, pure, refuse, sees, sees_word}
 use Rattle.rtlil_tree.specs.Processes.{body_part, body, further, sigs_from, compare, case, switch_part, cases, switch_with, switch_within, deepest, trigger, sync_line, updates, sync, sync_part, syncs, process}
-use Rattle.rtlil_tree.specs.Turns.{Enough}
 use Rattle.rtlil_tree.proofs.Leaves.{Leaves, Takes, Shrinks, Step, none, one, one_few, stepped, pure_shrinks, more_shrinks, stop_step, stop_shrinks, then_step, then_shrinks, on_step, on_shrinks, word_step, word_shrinks, if_leaves, next_left, takes_shrinks, refuse_leaves, fail_leaves}
-use Rattle.rtlil_tree.proofs.Repeated.{Ends, enough, many_shrinks, up_to_end_shrinks}
+use Rattle.rtlil_tree.proofs.Repeated.{Ends, many_shrinks, up_to_end_shrinks}
 use Rattle.rtlil_tree.proofs.Tokens.{identifier_takes, expect_takes, expect_word_takes}
 use Rattle.rtlil_tree.proofs.Sigs.{sig_takes}
 use Rattle.rtlil_tree.proofs.Statements.{line_shrinks, attribute_shrinks, assignment_shrinks}
 
 -- ---- bodies and switches, with the rule of a switch from its word on
 
-body_part_steps : (switch : Rule Switch) → Takes switch → (found : List Action) → Step (body_part switch found)
+pub body_part_steps : (switch : Rule Switch) → Takes switch → (found : List Action) → Step (body_part switch found)
 unfolding body_part
 body_part_steps switch takes found =
     on_step _ _ _ (more_shrinks found) (
@@ -28,27 +27,21 @@ body_part_steps switch takes found =
     word_step _ _ _ (then_shrinks _ _ assignment_shrinks (λ a. more_shrinks _)) (
     if_leaves stepped (sees_word (codes "switch")) _ _ (then_step _ _ takes (λ s. more_shrinks _)) (stop_step found))))
 
-body_end : (switch : Rule Switch) → Ends (body_part switch) pure
-unfolding repeated body_part sees sees_word
-body_end switch turns state end = refl
-
-body_enough : (switch : Rule Switch) → Takes switch → Enough (body_part switch) pure
-body_enough switch takes = enough (body_part switch) pure (body_part_steps switch takes) (body_end switch)
+pub body_end : (switch : Rule Switch) → Ends (body_part switch) pure
+unfolding body_part sees sees_word
+body_end switch state end = refl
 
 body_shrinks : (switch : Rule Switch) → Takes switch → Shrinks (body switch)
 unfolding body
 body_shrinks switch takes = many_shrinks (body_part switch) (body_part_steps switch takes) []
 
-further_steps : (found : List Sig) → Step (further found)
+pub further_steps : (found : List Sig) → Step (further found)
 unfolding further
 further_steps found = on_step _ _ _ (then_shrinks _ _ (takes_shrinks _ sig_takes) (λ s. more_shrinks _)) (stop_step found)
 
-further_end : Ends further pure
-unfolding repeated further sees
-further_end turns state end = refl
-
-pub further_enough : Enough further pure
-further_enough = enough further pure further_steps further_end
+pub further_end : Ends further pure
+unfolding further sees
+further_end state end = refl
 
 sigs_from_shrinks : (found : List Sig) → Shrinks (sigs_from found)
 unfolding sigs_from
@@ -69,7 +62,7 @@ case_shrinks switch takes =
     then_shrinks _ _ (body_shrinks switch takes) (λ actions.
     pure_shrinks _))
 
-switch_part_steps : (switch : Rule Switch) → Takes switch → (found : List Case) → Step (switch_part switch found)
+pub switch_part_steps : (switch : Rule Switch) → Takes switch → (found : List Case) → Step (switch_part switch found)
 unfolding switch_part
 switch_part_steps switch takes found =
     on_step _ _ _ (more_shrinks found) (
@@ -78,12 +71,9 @@ switch_part_steps switch takes found =
     word_step _ _ _ (then_shrinks _ _ (takes_shrinks _ (expect_takes sign.EndOfLine)) (λ _. stop_shrinks found)) (
     refuse_leaves stepped))))
 
-cases_end : (switch : Rule Switch) → Ends (switch_part switch) (λ _. refuse)
-unfolding repeated switch_part sees sees_word
-cases_end switch turns state end = refl
-
-cases_enough : (switch : Rule Switch) → Takes switch → Enough (switch_part switch) (λ _. refuse)
-cases_enough switch takes = enough (switch_part switch) (λ _. refuse) (switch_part_steps switch takes) (cases_end switch)
+pub cases_end : (switch : Rule Switch) → Ends (switch_part switch) (λ _. refuse)
+unfolding switch_part sees sees_word
+cases_end switch state end = refl
 
 cases_shrinks : (switch : Rule Switch) → Takes switch → Shrinks (cases switch)
 unfolding cases
@@ -97,16 +87,10 @@ switch_with_shrinks inner takes =
     then_shrinks _ _ (cases_shrinks inner takes) (λ found.
     pure_shrinks _)))
 
-switch_within_takes : (depth : ℕ) → Takes (switch_within depth)
+pub switch_within_takes : (depth : ℕ) → Takes (switch_within depth)
 unfolding switch_within Leaves
 switch_within_takes zero = fail_leaves {A = Switch} one fault.Nesting
 switch_within_takes (suc depth) = λ i. next_left one i (switch_with (switch_within depth)) one_few (switch_with_shrinks (switch_within depth) (switch_within_takes depth))
-
-pub bodies_enough : (depth : ℕ) → Enough (body_part (switch_within depth)) pure
-bodies_enough depth = body_enough (switch_within depth) (switch_within_takes depth)
-
-pub switches_enough : (depth : ℕ) → Enough (switch_part (switch_within depth)) (λ _. refuse)
-switches_enough depth = cases_enough (switch_within depth) (switch_within_takes depth)
 
 -- ---- syncs
 
@@ -122,19 +106,16 @@ trigger_shrinks =
     word_shrinks _ _ _ (then_shrinks _ _ (takes_shrinks _ sig_takes) (λ s. pure_shrinks _)) (
     if_leaves none (sees_word (codes "global")) _ _ (fail_leaves none fault.Process) (refuse_leaves none))))))))
 
-sync_line_steps : (found : List Assignment) → Step (sync_line found)
+pub sync_line_steps : (found : List Assignment) → Step (sync_line found)
 unfolding sync_line
 sync_line_steps found =
     on_step _ _ _ (more_shrinks found) (
     word_step _ _ _ (then_shrinks _ _ assignment_shrinks (λ a. more_shrinks _)) (
     if_leaves stepped (sees_word (codes "memwr")) _ _ (fail_leaves stepped fault.Process) (stop_step found)))
 
-updates_end : Ends sync_line pure
-unfolding repeated sync_line sees sees_word
-updates_end turns state end = refl
-
-pub updates_enough : Enough sync_line pure
-updates_enough = enough sync_line pure sync_line_steps updates_end
+pub updates_end : Ends sync_line pure
+unfolding sync_line sees sees_word
+updates_end state end = refl
 
 updates_shrink : Shrinks updates
 unfolding updates
@@ -148,16 +129,13 @@ sync_shrinks =
     then_shrinks _ _ updates_shrink (λ lines.
     pure_shrinks _)))
 
-sync_part_steps : (found : List Sync) → Step (sync_part found)
+pub sync_part_steps : (found : List Sync) → Step (sync_part found)
 unfolding sync_part
 sync_part_steps found = word_step _ _ _ (then_shrinks _ _ sync_shrinks (λ s. more_shrinks _)) (stop_step found)
 
-syncs_end : Ends sync_part pure
-unfolding repeated sync_part sees_word
-syncs_end turns state end = refl
-
-pub syncs_enough : Enough sync_part pure
-syncs_enough = enough sync_part pure sync_part_steps syncs_end
+pub syncs_end : Ends sync_part pure
+unfolding sync_part sees_word
+syncs_end state end = refl
 
 syncs_shrink : Shrinks syncs
 unfolding syncs

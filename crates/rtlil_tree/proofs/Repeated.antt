@@ -1,14 +1,31 @@
 -- A repetition with more turns than tokens.
-use Rattle.std.proofs.Common.{◌≡◌, ◌≤◌, ℕ, zero, suc, List, [], ◌∷◌, length, Bool, true, false, Ok, Err, refl, sym, ◌∙◌, if◌then◌else◌, arith}
-use Rattle.rtlil_tree.specs.Input.{Input, Outcome, Rule, and_then, pure, refuse, repeated, many, up_to_end}
+use Rattle.std.proofs.Common.{◌≡◌, ◌≤◌, ◌<◌, ℕ, zero, suc, List, [], ◌∷◌, length, Bool, true, false, Ok, Err, refl, sym, ap, subst, ◌+◌, ◌-◌, ◌∙◌, if◌then◌else◌, arith}
+use Rattle.rtlil_tree.specs.Input.{Input, Outcome, Rule, and_then, pure, refuse, fault_at, repeated, many, up_to_end}
 use Rattle.rtlil_tree.specs.declared.place.Place.{Place}
 use Rattle.rtlil_lexer.specs.declared.token.Token.{Token}
-use Rattle.rtlil_tree.specs.Turns.{Enough}
-use Rattle.rtlil_tree.proofs.Leaves.{Leaves, Left, Shrinks, Step, stepped, none, pure_shrinks, then_leaves, refuse_leaves}
+use Rattle.rtlil_lexer.specs.declared.fault.TextFault.{TextFault}
+use Rattle.rtlil_lexer.specs.declared.fault.TextFaultKind.TheVariants.{Syntax}
+use Rattle.rtlil_tree.specs.Turns.{Enough, IsStep, TakesToken}
+use Rattle.rtlil_tree.proofs.Leaves.{Leaves, Left, Takes, Shrinks, one, Step, stepped, none, pure_shrinks, then_leaves, refuse_leaves}
 
--- where no token is left, one turn more gives what no turn gives
+-- the outcome of a last step
+abbrev pub last : {S : Type 0} → Outcome S → Outcome (S × Bool)
+last (Ok p) = Ok ((p.0, false), p.1)
+last (Err e) = Err e
+
+-- where no token is left, a step ends the repetition as no turn would
 abbrev pub Ends : {S : Type 0} → (S → Rule (S × Bool)) → (S → Rule S) → Type 0
-Ends {S} step ended = (turns : ℕ) (state : S) (end : Place) → repeated step ended (suc turns) state (record { rest = []; end = end }) ≡ ended state (record { rest = []; end = end })
+Ends {S} step ended = (state : S) (end : Place) → step state (record { rest = []; end = end }) ≡ last (ended state (record { rest = []; end = end }))
+
+no_more : {S : Type 0} (step : S → Rule (S × Bool)) (ended : S → Rule S) (turns : ℕ) (o : Outcome S) → and_then (last o) (λ p. if p.1 then repeated step ended turns p.0 else pure p.0) ≡ o
+no_more step ended turns (Ok p) = refl
+no_more step ended turns (Err e) = refl
+
+at_end : {S : Type 0} (step : S → Rule (S × Bool)) (ended : S → Rule S) → Ends step ended
+    → (turns : ℕ) (state : S) (end : Place) → repeated step ended (suc turns) state (record { rest = []; end = end }) ≡ ended state (record { rest = []; end = end })
+unfolding repeated
+at_end step ended ends turns state end =
+    ap (λ o. and_then o (λ p. if p.1 then repeated step ended turns p.0 else pure p.0)) (ends state end) ∙ no_more step ended turns (ended state (record { rest = []; end = end }))
 
 goes_on : {S : Type 0} (step : S → Rule (S × Bool)) (ended : S → Rule S) (m n : ℕ) (o : Outcome (S × Bool)) (k : ℕ) → Left stepped (suc k) o → k ≤ m → k ≤ n
     → ((state : S) (i : Input) → length i.rest ≤ m → length i.rest ≤ n → repeated step ended m state i ≡ repeated step ended n state i)
@@ -22,11 +39,11 @@ same_from : {S : Type 0} (step : S → Rule (S × Bool)) (ended : S → Rule S) 
     → repeated step ended m state (record { rest = rest; end = end }) ≡ repeated step ended n state (record { rest = rest; end = end })
 unfolding repeated Leaves
 same_from step ended steps ends zero zero state rest end lm ln = refl
-same_from step ended steps ends zero (suc n) state [] end lm ln = sym (ends n state end)
+same_from step ended steps ends zero (suc n) state [] end lm ln = sym (at_end step ended ends n state end)
 same_from step ended steps ends zero (suc n) state (_ ∷ _) end lm ln = absurd (omega arith)
-same_from step ended steps ends (suc m) zero state [] end lm ln = ends m state end
+same_from step ended steps ends (suc m) zero state [] end lm ln = at_end step ended ends m state end
 same_from step ended steps ends (suc m) zero state (_ ∷ _) end lm ln = absurd (omega arith)
-same_from step ended steps ends (suc m) (suc n) state [] end lm ln = ends m state end ∙ sym (ends n state end)
+same_from step ended steps ends (suc m) (suc n) state [] end lm ln = at_end step ended ends m state end ∙ sym (at_end step ended ends n state end)
 same_from step ended steps ends (suc m) (suc n) state (t ∷ ts) end lm ln =
     goes_on step ended m n (step state (record { rest = t ∷ ts; end = end })) (length ts) (steps state (record { rest = t ∷ ts; end = end })) (omega arith) (omega arith)
     (λ state j. same_from step ended steps ends m n state j.rest j.end)
@@ -37,6 +54,55 @@ same step ended steps ends m n state i lm ln = same_from step ended steps ends m
 
 pub enough : {S : Type 0} (step : S → Rule (S × Bool)) (ended : S → Rule S) → ((state : S) → Step (step state)) → Ends step ended → Enough step ended
 enough step ended steps ends turns state i within = same step ended steps ends turns (length i.rest) state i within (omega arith)
+
+-- ---- a step after which more may come takes a token
+
+more_after : {S : Type 0} → Outcome (S × Bool) → Bool
+more_after (Ok p) = p.0.1
+more_after (Err e) = false
+
+none_after : {S : Type 0} (o : Outcome S) → more_after (last o) ≡ false
+unfolding more_after
+none_after (Ok p) = refl
+none_after (Err e) = refl
+
+differ : true ≡ false → ⊥
+differ e = grind arith
+
+is_step_from : {S : Type 0} (step : S → Rule (S × Bool)) (ended : S → Rule S) → ((state : S) → Step (step state)) → Ends step ended
+    → (state next : S) (goes_on : Bool) (rest : List Token) (end : Place) (j : Input) → step state (record { rest = rest; end = end }) ≡ Ok ((next, goes_on), j)
+    → length j.rest + (if goes_on then 1 else 0) ≤ length rest
+unfolding Leaves more_after
+is_step_from step ended steps ends state next false rest end j e =
+    let left : length j.rest ≤ length rest - 0 = subst (λ o. Left stepped (length rest) o) e (steps state (record { rest = rest; end = end })) in omega arith
+is_step_from step ended steps ends state next true [] end j e =
+    absurd (differ (sym (ap more_after e) ∙ ap more_after (ends state end) ∙ none_after (ended state (record { rest = []; end = end }))))
+is_step_from step ended steps ends state next true (t ∷ ts) end j e =
+    let left : length j.rest ≤ suc (length ts) - 1 = subst (λ o. Left stepped (suc (length ts)) o) e (steps state (record { rest = t ∷ ts; end = end })) in omega arith
+
+pub is_step : {S : Type 0} (step : S → Rule (S × Bool)) (ended : S → Rule S) → ((state : S) → Step (step state)) → Ends step ended → IsStep step
+is_step step ended steps ends state next goes_on i j e = is_step_from step ended steps ends state next goes_on i.rest i.end j e
+
+-- ---- a rule that takes a token
+
+-- where no token is left, the rule refuses
+abbrev pub Refuses : {A : Type 0} → Rule A → Type 0
+Refuses {A} rule = (end : Place) → rule (record { rest = []; end = end }) ≡ refuse (record { rest = []; end = end })
+
+not_read : {A : Type 0} (a : A) (f : TextFault) (o : Outcome A) (j : Input) → o ≡ Err f → o ≡ Ok (a, j) → ⊥
+not_read a f o j refused read = grind arith
+
+takes_token_from : {A : Type 0} (rule : Rule A) → Takes rule → Refuses rule
+    → (a : A) (rest : List Token) (end : Place) (j : Input) → rule (record { rest = rest; end = end }) ≡ Ok (a, j) → length j.rest < length rest
+unfolding Leaves
+takes_token_from rule takes refuses a [] end j e = absurd (not_read a (fault_at Syntax (record { rest = []; end = end })) _ j (refuses end) e)
+takes_token_from rule takes refuses a (t ∷ ts) end j e =
+    let left : length j.rest ≤ suc (length ts) - 1 = subst (λ o. Left one (suc (length ts)) o) e (takes (record { rest = t ∷ ts; end = end })) in omega arith
+
+pub takes_token : {A : Type 0} (rule : Rule A) → Takes rule → Refuses rule → TakesToken rule
+takes_token rule takes refuses a i j e = takes_token_from rule takes refuses a i.rest i.end j e
+
+-- ---- what a repetition leaves
 
 either : {S : Type 0} (b : Bool) (x y : Rule S) → Shrinks x → Shrinks y → Shrinks (if b then x else y)
 either true x y first second = first

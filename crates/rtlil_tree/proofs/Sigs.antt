@@ -9,10 +9,11 @@ use Rattle.rtlil_lexer.specs.declared.fault.TextFaultKind.TheVariants.{Nesting}
 use Rattle.rtlil_tree.specs.declared.cursor.Sign.TheVariants as sign
 use Rattle.rtlil_tree.specs.declared.sig.Slice.{Slice}
 use Rattle.rtlil_tree.specs.declared.sig.Sig.{Sig}
-use Rattle.rtlil_tree.specs.Input.{Input, Outcome, Rule, and_then, ◌>>=◌, pure, refuse, on, sees, kind, next, more, stop, repeated}
+use Rattle.rtlil_tree.specs.Input.{Input, Outcome, Rule, and_then, ◌>>=◌, pure, refuse, on, sees, kind, next, more, stop, repeated, natural}
 use Rattle.rtlil_tree.specs.Sigs.{constant, constant_by, slice, slices, slices_from, part_with, sig_with, parts, parts_from, braces_within, sig, sig_within, deepest}
+use Rattle.rtlil_tree.specs.Turns.{TakesToken}
 use Rattle.rtlil_tree.proofs.Leaves.{Leaves, Left, Takes, Shrinks, Step, one, none, one_few, pure_shrinks, more_shrinks, stop_step, stop_shrinks, then_step, then_takes, then_shrinks, on_step, on_shrinks, next_left, taken, takes_shrinks, fail_leaves, refuse_leaves}
-use Rattle.rtlil_tree.proofs.Repeated.{Ends, enough}
+use Rattle.rtlil_tree.proofs.Repeated.{Ends, enough, Refuses, takes_token}
 use Rattle.rtlil_tree.proofs.Tokens.{natural_takes, expect_takes}
 
 constant_taken : (k : Option TokenKind) (i : Input) → Left one (length i.rest) (constant_by k i)
@@ -27,13 +28,20 @@ constant_takes = λ i. constant_taken (kind i) i
 
 -- ---- slices
 
-slice_shrinks : Shrinks slice
+slice_takes : Takes slice
 unfolding slice
-slice_shrinks =
-    then_shrinks _ _ (takes_shrinks _ natural_takes) (λ high.
+slice_takes =
+    then_takes _ _ natural_takes (λ high.
     then_shrinks _ _ (on_shrinks _ _ _ (takes_shrinks _ natural_takes) (pure_shrinks high)) (λ low.
     then_shrinks _ _ (takes_shrinks _ (expect_takes sign.RightBracket)) (λ _.
     pure_shrinks _)))
+
+slice_refuses : Refuses slice
+unfolding slice natural
+slice_refuses end = refl
+
+pub slice_takes_token : TakesToken slice
+slice_takes_token = takes_token slice slice_takes slice_refuses
 
 -- one slice more, if there is one
 slice_step : List Slice → Rule (List Slice × Bool)
@@ -41,11 +49,11 @@ slice_step found = on sign.LeftBracket (slice >>= λ s. more (found ++ s ∷ [])
 
 slice_steps : (found : List Slice) → Step (slice_step found)
 unfolding slice_step
-slice_steps found = on_step _ _ _ (then_shrinks _ _ slice_shrinks (λ s. more_shrinks _)) (stop_step found)
+slice_steps found = on_step _ _ _ (then_shrinks _ _ (takes_shrinks _ slice_takes) (λ s. more_shrinks _)) (stop_step found)
 
 slices_end : Ends slice_step pure
-unfolding slice_step repeated sees
-slices_end turns state end = refl
+unfolding slice_step sees
+slices_end state end = refl
 
 slices_case : (b : Bool) (o : Outcome Slice) (turns : ℕ) (found : List Slice) (i : Input)
     → ((found : List Slice) (j : Input) → slices_from turns found j ≡ repeated slice_step pure turns found j)
@@ -66,7 +74,7 @@ slices_enough turns found i within = slices_repeated turns found i ∙ enough sl
 slices_from_shrinks : (turns : ℕ) (found : List Slice) → Shrinks (slices_from turns found)
 unfolding slices_from
 slices_from_shrinks zero found = pure_shrinks found
-slices_from_shrinks (suc turns) found = on_shrinks _ _ _ (then_shrinks _ _ slice_shrinks (λ s. slices_from_shrinks turns (found ++ s ∷ []))) (pure_shrinks found)
+slices_from_shrinks (suc turns) found = on_shrinks _ _ _ (then_shrinks _ _ (takes_shrinks _ slice_takes) (λ s. slices_from_shrinks turns (found ++ s ∷ []))) (pure_shrinks found)
 
 slices_shrinks : Shrinks slices
 unfolding slices Leaves
@@ -113,13 +121,9 @@ part_steps : (inner : Rule Sig) → Takes inner → (found : List Sig) → Step 
 unfolding part_step
 part_steps inner takes found = on_step _ _ _ (stop_shrinks found) (then_step _ _ takes (λ s. more_shrinks _))
 
--- where no token is left, a signal is refused
-abbrev pub Refuses : Rule Sig → Type 0
-Refuses inner = (end : Place) → inner (record { rest = []; end = end }) ≡ refuse (record { rest = []; end = end })
-
 parts_end : (inner : Rule Sig) → Refuses inner → Ends (part_step inner) (λ _. refuse)
-unfolding part_step repeated sees
-parts_end inner refuses turns state end = ap (λ o. and_then (and_then o (λ s. more (state ++ s ∷ []))) (λ p. if p.1 then repeated (part_step inner) (λ _. refuse) turns p.0 else pure p.0)) (refuses end)
+unfolding part_step sees
+parts_end inner refuses state end = ap (λ o. and_then o (λ s. more (state ++ s ∷ []))) (refuses end)
 
 parts_case : (inner : Rule Sig) (b : Bool) (o : Outcome Sig) (turns : ℕ) (found : List Sig) (i : Input)
     → ((found : List Sig) (j : Input) → parts_from inner turns found j ≡ repeated (part_step inner) (λ _. refuse) turns found j)
@@ -154,7 +158,7 @@ sig_within_takes depth = sig_with_takes (braces_within depth) (braces_takes dept
 pub sig_takes : Takes sig
 sig_takes = sig_within_takes deepest
 
-sig_refuses : (depth : ℕ) → Refuses (sig_within depth)
+pub sig_refuses : (depth : ℕ) → Refuses (sig_within depth)
 unfolding sig_with part_with sees constant
 sig_refuses depth end = refl
 
@@ -163,3 +167,6 @@ parts_enough depth turns found i within =
     parts_repeated (sig_within depth) turns found i
     ∙ enough (part_step (sig_within depth)) (λ _. refuse) (part_steps (sig_within depth) (sig_within_takes depth)) (parts_end (sig_within depth) (sig_refuses depth)) turns found i within
     ∙ sym (parts_repeated (sig_within depth) (length i.rest) found i)
+
+pub sig_takes_token : (depth : ℕ) → TakesToken (sig_within depth)
+sig_takes_token depth = takes_token (sig_within depth) (sig_within_takes depth) (sig_refuses depth)

@@ -5,11 +5,10 @@ use Rattle.rtlil_tree.specs.declared.module.Attribute.{Attribute}
 use Rattle.rtlil_tree.specs.declared.module.WireOptions.{WireOptions}
 use Rattle.rtlil_tree.specs.declared.module.MemoryOptions.{MemoryOptions}
 use Rattle.rtlil_tree.specs.declared.module.Cell.{Cell}
-use Rattle.rtlil_tree.specs.Input.{◌>>=◌, pure, refuse, sees, sees_word, expect, more, natural, integer, repeated}
+use Rattle.rtlil_tree.specs.Input.{◌>>=◌, pure, refuse, sees, sees_word, expect, more, natural, integer}
 use Rattle.rtlil_tree.specs.Statements.{attribute, assignment, parameter_kind, default, parameter, plain_wire, wire_option, wire_options, wire, plain_memory, memory_option, memory_options, memory, setting, connection, cell_line, cell_lines, opened, cell}
-use Rattle.rtlil_tree.specs.Turns.{Enough}
 use Rattle.rtlil_tree.proofs.Leaves.{Shrinks, Step, none, stepped, pure_shrinks, more_shrinks, stop_step, stop_shrinks, then_shrinks, on_step, word_step, word_shrinks, if_leaves, takes_shrinks, refuse_leaves}
-use Rattle.rtlil_tree.proofs.Repeated.{Ends, enough, many_shrinks, up_to_end_shrinks}
+use Rattle.rtlil_tree.proofs.Repeated.{Ends, many_shrinks, up_to_end_shrinks}
 use Rattle.rtlil_tree.proofs.Tokens.{natural_takes, integer_takes, identifier_takes, expect_takes}
 use Rattle.rtlil_tree.proofs.Sigs.{constant_takes, sig_takes}
 
@@ -58,7 +57,7 @@ natural_then f = then_shrinks _ _ (takes_shrinks _ natural_takes) (λ n. more_sh
 integer_then : {S : Type 0} (f : ℤ → S) → Shrinks (integer >>= λ n. more (f n))
 integer_then f = then_shrinks _ _ (takes_shrinks _ integer_takes) (λ n. more_shrinks (f n))
 
-wire_option_steps : (o : WireOptions) → Step (wire_option o)
+pub wire_option_steps : (o : WireOptions) → Step (wire_option o)
 unfolding wire_option
 wire_option_steps o =
     word_step _ _ _ (natural_then _) (
@@ -70,12 +69,9 @@ wire_option_steps o =
     word_step _ _ _ (more_shrinks _) (
     stop_step o)))))))
 
-wire_options_end : Ends wire_option pure
-unfolding repeated wire_option sees_word
-wire_options_end turns state end = refl
-
-pub wire_options_enough : Enough wire_option pure
-wire_options_enough = enough wire_option pure wire_option_steps wire_options_end
+pub wire_options_end : Ends wire_option pure
+unfolding wire_option sees_word
+wire_options_end state end = refl
 
 wire_options_shrink : Shrinks wire_options
 unfolding wire_options
@@ -90,7 +86,7 @@ wire_shrinks attributes =
 
 -- ---- memories
 
-memory_option_steps : (o : MemoryOptions) → Step (memory_option o)
+pub memory_option_steps : (o : MemoryOptions) → Step (memory_option o)
 unfolding memory_option
 memory_option_steps o =
     word_step _ _ _ (natural_then _) (
@@ -98,12 +94,9 @@ memory_option_steps o =
     word_step _ _ _ (integer_then _) (
     stop_step o)))
 
-memory_options_end : Ends memory_option pure
-unfolding repeated memory_option sees_word
-memory_options_end turns state end = refl
-
-pub memory_options_enough : Enough memory_option pure
-memory_options_enough = enough memory_option pure memory_option_steps memory_options_end
+pub memory_options_end : Ends memory_option pure
+unfolding memory_option sees_word
+memory_options_end state end = refl
 
 memory_options_shrink : Shrinks memory_options
 unfolding memory_options
@@ -133,7 +126,7 @@ connection_shrinks =
     then_shrinks _ _ (takes_shrinks _ sig_takes) (λ joined.
     line_shrinks _))
 
-cell_line_steps : (c : Cell) → Step (cell_line c)
+pub cell_line_steps : (c : Cell) → Step (cell_line c)
 unfolding cell_line
 cell_line_steps c =
     on_step _ _ _ (more_shrinks c) (
@@ -143,12 +136,9 @@ cell_line_steps c =
     word_step _ _ _ (then_shrinks _ _ (takes_shrinks _ (expect_takes sign.EndOfLine)) (λ _. stop_shrinks c)) (
     refuse_leaves stepped)))))
 
-cell_lines_end : Ends cell_line (λ _. refuse)
-unfolding repeated cell_line sees sees_word
-cell_lines_end turns state end = refl
-
-pub cell_lines_enough : Enough cell_line (λ _. refuse)
-cell_lines_enough = enough cell_line (λ _. refuse) cell_line_steps cell_lines_end
+pub cell_lines_end : Ends cell_line (λ _. refuse)
+unfolding cell_line sees sees_word
+cell_lines_end state end = refl
 
 cell_lines_shrink : (c : Cell) → Shrinks (cell_lines c)
 unfolding cell_lines

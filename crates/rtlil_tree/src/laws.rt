@@ -1,13 +1,41 @@
 //! That the bounds in the grammar's definition are never what ends a repetition.
-ghost use Rattle.std.specs.Prelude.{◌≡◌, ◌≤◌, ℕ, List, length};
+ghost use Rattle.std.specs.Prelude.{◌≡◌, ◌≤◌, ℕ, List, length, Ok, Err};
+ghost use Rattle.rtlil_lexer.specs.declared.fault.TextFault.{TextFault};
+ghost use Rattle.rtlil_lexer.specs.declared.token.Token.{Token};
 ghost use Rattle.rtlil_tree.specs.Input.{Input, pure, refuse};
-ghost use Rattle.rtlil_tree.specs.Modules.{module_line, file_line};
+ghost use Rattle.rtlil_tree.specs.Modules.{module_line, file_line, parsed};
 ghost use Rattle.rtlil_tree.specs.Processes.{body_part, further, switch_part, switch_within, sync_line, sync_part};
-ghost use Rattle.rtlil_tree.specs.Sigs.{slices_from, parts_from, sig_within};
+ghost use Rattle.rtlil_tree.specs.Sigs.{slice, slices_from, parts_from, sig_within};
 ghost use Rattle.rtlil_tree.specs.Statements.{wire_option, memory_option, cell_line};
-ghost use Rattle.rtlil_tree.specs.Turns.{Enough};
+ghost use Rattle.rtlil_tree.specs.Turns.{Enough, IsStep, TakesToken};
+ghost use Rattle.rtlil_tree.specs.declared.module.File.{File};
 ghost use Rattle.rtlil_tree.specs.declared.sig.Sig.{Sig};
 ghost use Rattle.rtlil_tree.specs.declared.sig.Slice.{Slice};
+
+/// No list of tokens has two trees, two faults, or a tree and a fault.
+pub fn law_of_one_tree()
+    ensures trees { (tokens : List Token) (file other : File) → parsed tokens ≡ Ok file → parsed tokens ≡ Ok other → file ≡ other }
+    ensures faults { (tokens : List Token) (fault other : TextFault) → parsed tokens ≡ Err fault → parsed tokens ≡ Err other → fault ≡ other }
+    ensures never_both { (tokens : List Token) (file : File) (fault : TextFault) → parsed tokens ≡ Ok file → parsed tokens ≡ Err fault → ⊥ }
+{}
+
+/// What each step of a repetition leaves is not more than there was, and less where more may come.
+///
+/// A slice, from behind its bracket on, and a signal take at least one token.
+pub fn law_of_steps()
+    ensures slices { TakesToken slice }
+    ensures signals { (depth : ℕ) → TakesToken (sig_within depth) }
+    ensures wires { IsStep wire_option }
+    ensures memories { IsStep memory_option }
+    ensures cells { IsStep cell_line }
+    ensures sigs_of_a_case { IsStep further }
+    ensures bodies { (depth : ℕ) → IsStep (body_part (switch_within depth)) }
+    ensures switches { (depth : ℕ) → IsStep (switch_part (switch_within depth)) }
+    ensures updates { IsStep sync_line }
+    ensures syncs { IsStep sync_part }
+    ensures modules { IsStep module_line }
+    ensures files { IsStep file_line }
+{}
 
 /// Any number of turns that is at least the number of tokens left gives the same.
 pub fn law_of_turns()
