@@ -5,7 +5,7 @@ use Rattle.rtlil_tree.specs.declared.place.Place.{Place}
 use Rattle.rtlil_lexer.specs.declared.token.Token.{Token}
 use Rattle.rtlil_lexer.specs.declared.fault.TextFault.{TextFault}
 use Rattle.rtlil_lexer.specs.declared.fault.TextFaultKind.TheVariants.{Syntax}
-use Rattle.rtlil_tree.specs.Turns.{Enough, IsStep, TakesToken}
+use Rattle.rtlil_tree.specs.Turns.{Enough, Repeats, IsStep, TakesToken}
 use Rattle.rtlil_tree.proofs.Leaves.{Leaves, Left, Takes, Shrinks, one, Step, stepped, none, pure_shrinks, then_leaves, refuse_leaves}
 
 -- the outcome of a last step
@@ -17,22 +17,22 @@ last (Err e) = Err e
 abbrev pub Ends : {S : Type 0} → (S → Rule (S × Bool)) → (S → Rule S) → Type 0
 Ends {S} step ended = (state : S) (end : Place) → step state (record { rest = []; end = end }) ≡ last (ended state (record { rest = []; end = end }))
 
-no_more : {S : Type 0} (step : S → Rule (S × Bool)) (ended : S → Rule S) (turns : ℕ) (o : Outcome S) → and_then (last o) (λ p. if p.1 then repeated step ended turns p.0 else pure p.0) ≡ o
-no_more step ended turns (Ok p) = refl
-no_more step ended turns (Err e) = refl
+no_more : {S : Type 0} (after : S → Rule S) (o : Outcome S) → and_then (last o) (λ p. if p.1 then after p.0 else pure p.0) ≡ o
+no_more after (Ok p) = refl
+no_more after (Err e) = refl
 
 at_end : {S : Type 0} (step : S → Rule (S × Bool)) (ended : S → Rule S) → Ends step ended
     → (turns : ℕ) (state : S) (end : Place) → repeated step ended (suc turns) state (record { rest = []; end = end }) ≡ ended state (record { rest = []; end = end })
 unfolding repeated
 at_end step ended ends turns state end =
-    ap (λ o. and_then o (λ p. if p.1 then repeated step ended turns p.0 else pure p.0)) (ends state end) ∙ no_more step ended turns (ended state (record { rest = []; end = end }))
+    ap (λ o. and_then o (λ p. if p.1 then repeated step ended turns p.0 else pure p.0)) (ends state end) ∙ no_more (repeated step ended turns) (ended state (record { rest = []; end = end }))
 
-goes_on : {S : Type 0} (step : S → Rule (S × Bool)) (ended : S → Rule S) (m n : ℕ) (o : Outcome (S × Bool)) (k : ℕ) → Left stepped (suc k) o → k ≤ m → k ≤ n
-    → ((state : S) (i : Input) → length i.rest ≤ m → length i.rest ≤ n → repeated step ended m state i ≡ repeated step ended n state i)
-    → and_then o (λ p. if p.1 then repeated step ended m p.0 else pure p.0) ≡ and_then o (λ p. if p.1 then repeated step ended n p.0 else pure p.0)
-goes_on step ended m n (Err e) k left lm ln same = refl
-goes_on step ended m n (Ok ((state, true), i)) k left lm ln same = same state i (omega arith) (omega arith)
-goes_on step ended m n (Ok ((state, false), i)) k left lm ln same = refl
+goes_on : {S : Type 0} (after other : S → Rule S) (k : ℕ) (o : Outcome (S × Bool)) → Left stepped (suc k) o
+    → ((state : S) (i : Input) → length i.rest ≤ k → after state i ≡ other state i)
+    → and_then o (λ p. if p.1 then after p.0 else pure p.0) ≡ and_then o (λ p. if p.1 then other p.0 else pure p.0)
+goes_on after other k (Err e) left same = refl
+goes_on after other k (Ok ((state, true), i)) left same = same state i (omega arith)
+goes_on after other k (Ok ((state, false), i)) left same = refl
 
 same_from : {S : Type 0} (step : S → Rule (S × Bool)) (ended : S → Rule S) → ((state : S) → Step (step state)) → Ends step ended
     → (m n : ℕ) (state : S) (rest : List Token) (end : Place) → length rest ≤ m → length rest ≤ n
@@ -45,8 +45,8 @@ same_from step ended steps ends (suc m) zero state [] end lm ln = at_end step en
 same_from step ended steps ends (suc m) zero state (_ ∷ _) end lm ln = absurd (omega arith)
 same_from step ended steps ends (suc m) (suc n) state [] end lm ln = at_end step ended ends m state end ∙ sym (at_end step ended ends n state end)
 same_from step ended steps ends (suc m) (suc n) state (t ∷ ts) end lm ln =
-    goes_on step ended m n (step state (record { rest = t ∷ ts; end = end })) (length ts) (steps state (record { rest = t ∷ ts; end = end })) (omega arith) (omega arith)
-    (λ state j. same_from step ended steps ends m n state j.rest j.end)
+    goes_on (repeated step ended m) (repeated step ended n) (length ts) (step state (record { rest = t ∷ ts; end = end })) (steps state (record { rest = t ∷ ts; end = end }))
+    (λ state j within. same_from step ended steps ends m n state j.rest j.end (omega arith) (omega arith))
 
 pub same : {S : Type 0} (step : S → Rule (S × Bool)) (ended : S → Rule S) → ((state : S) → Step (step state)) → Ends step ended
     → (m n : ℕ) (state : S) (i : Input) → length i.rest ≤ m → length i.rest ≤ n → repeated step ended m state i ≡ repeated step ended n state i
@@ -54,6 +54,36 @@ same step ended steps ends m n state i lm ln = same_from step ended steps ends m
 
 pub enough : {S : Type 0} (step : S → Rule (S × Bool)) (ended : S → Rule S) → ((state : S) → Step (step state)) → Ends step ended → Enough step ended
 enough step ended steps ends turns state i within = same step ended steps ends turns (length i.rest) state i within (omega arith)
+
+-- ---- a repetition without its bound
+
+unbounded : {S : Type 0} (step : S → Rule (S × Bool)) (ended : S → Rule S) → S → Rule S
+unbounded step ended state = λ i. repeated step ended (length i.rest) state i
+
+unrolled_from : {S : Type 0} (step : S → Rule (S × Bool)) (ended : S → Rule S) → ((state : S) → Step (step state)) → Ends step ended → (state : S) (rest : List Token) (end : Place)
+    → repeated step ended (length rest) state (record { rest = rest; end = end })
+    ≡ and_then (step state (record { rest = rest; end = end })) (λ p. if p.1 then unbounded step ended p.0 else pure p.0)
+unfolding repeated Leaves unbounded
+unrolled_from step ended steps ends state [] end =
+    sym (ap (λ o. and_then o (λ p. if p.1 then unbounded step ended p.0 else pure p.0)) (ends state end) ∙ no_more (unbounded step ended) (ended state (record { rest = []; end = end })))
+unrolled_from step ended steps ends state (t ∷ ts) end =
+    goes_on (repeated step ended (length ts)) (unbounded step ended) (length ts) (step state (record { rest = t ∷ ts; end = end })) (steps state (record { rest = t ∷ ts; end = end }))
+    (λ state j within. same step ended steps ends (length ts) (length j.rest) state j within (omega arith))
+
+pub repeats : {S : Type 0} (step : S → Rule (S × Bool)) (ended : S → Rule S) → ((state : S) → Step (step state)) → Ends step ended
+    → Repeats step (λ state i. repeated step ended (length i.rest) state i)
+unfolding unbounded
+repeats step ended steps ends state i = unrolled_from step ended steps ends state i.rest i.end
+
+then_same : {S : Type 0} (one other : S → Rule S) (o : Outcome (S × Bool)) → ((state : S) (i : Input) → one state i ≡ other state i)
+    → and_then o (λ p. if p.1 then one p.0 else pure p.0) ≡ and_then o (λ p. if p.1 then other p.0 else pure p.0)
+then_same one other (Err e) same = refl
+then_same one other (Ok ((state, true), i)) same = same state i
+then_same one other (Ok ((state, false), i)) same = refl
+
+-- what reads the same repeats the same step
+pub repeats_too : {S : Type 0} (step : S → Rule (S × Bool)) (one other : S → Rule S) → ((state : S) (i : Input) → one state i ≡ other state i) → Repeats step other → Repeats step one
+repeats_too step one other same known state i = same state i ∙ known state i ∙ sym (then_same one other (step state i) same)
 
 -- ---- a step after which more may come takes a token
 

@@ -9,11 +9,11 @@ use Rattle.rtlil_lexer.specs.declared.fault.TextFaultKind.TheVariants.{Nesting}
 use Rattle.rtlil_tree.specs.declared.cursor.Sign.TheVariants as sign
 use Rattle.rtlil_tree.specs.declared.sig.Slice.{Slice}
 use Rattle.rtlil_tree.specs.declared.sig.Sig.{Sig}
-use Rattle.rtlil_tree.specs.Input.{Input, Outcome, Rule, and_then, ◌>>=◌, pure, refuse, on, sees, kind, next, more, stop, repeated, natural}
+use Rattle.rtlil_tree.specs.Input.{Input, Outcome, Rule, and_then, pure, refuse, sees, kind, next, more, repeated, natural}
 use Rattle.rtlil_tree.specs.Sigs.{constant, constant_by, slice, slices, slices_from, part_with, sig_with, parts, parts_from, braces_within, sig, sig_within, deepest}
-use Rattle.rtlil_tree.specs.Turns.{TakesToken}
+use Rattle.rtlil_tree.specs.Turns.{TakesToken, Repeats, slice_step, part_step, more_slices, more_parts}
 use Rattle.rtlil_tree.proofs.Leaves.{Leaves, Left, Takes, Shrinks, Step, one, none, one_few, pure_shrinks, more_shrinks, stop_step, stop_shrinks, then_step, then_takes, then_shrinks, on_step, on_shrinks, next_left, taken, takes_shrinks, fail_leaves, refuse_leaves}
-use Rattle.rtlil_tree.proofs.Repeated.{Ends, enough, Refuses, takes_token}
+use Rattle.rtlil_tree.proofs.Repeated.{Ends, enough, repeats, repeats_too, Refuses, takes_token}
 use Rattle.rtlil_tree.proofs.Tokens.{natural_takes, expect_takes}
 
 constant_taken : (k : Option TokenKind) (i : Input) → Left one (length i.rest) (constant_by k i)
@@ -43,16 +43,11 @@ slice_refuses end = refl
 pub slice_takes_token : TakesToken slice
 slice_takes_token = takes_token slice slice_takes slice_refuses
 
--- one slice more, if there is one
-slice_step : List Slice → Rule (List Slice × Bool)
-slice_step found = on sign.LeftBracket (slice >>= λ s. more (found ++ s ∷ [])) (stop found)
-
 slice_steps : (found : List Slice) → Step (slice_step found)
-unfolding slice_step
 slice_steps found = on_step _ _ _ (then_shrinks _ _ (takes_shrinks _ slice_takes) (λ s. more_shrinks _)) (stop_step found)
 
 slices_end : Ends slice_step pure
-unfolding slice_step sees
+unfolding sees
 slices_end state end = refl
 
 slices_case : (b : Bool) (o : Outcome Slice) (turns : ℕ) (found : List Slice) (i : Input)
@@ -64,12 +59,15 @@ slices_case true (Err e) turns found i same = refl
 slices_case true (Ok (s, j)) turns found i same = same (found ++ s ∷ []) j
 
 slices_repeated : (turns : ℕ) (found : List Slice) (i : Input) → slices_from turns found i ≡ repeated slice_step pure turns found i
-unfolding slices_from repeated slice_step
+unfolding slices_from repeated
 slices_repeated zero found i = refl
 slices_repeated (suc turns) found i = slices_case (sees sign.LeftBracket i) (slice (next i)) turns found i (λ found j. slices_repeated turns found j)
 
 pub slices_enough : (turns : ℕ) (found : List Slice) (i : Input) → length i.rest ≤ turns → slices_from turns found i ≡ slices_from (length i.rest) found i
 slices_enough turns found i within = slices_repeated turns found i ∙ enough slice_step pure slice_steps slices_end turns found i within ∙ sym (slices_repeated (length i.rest) found i)
+
+pub slices_repeat : Repeats slice_step more_slices
+slices_repeat = repeats_too slice_step more_slices (λ found i. repeated slice_step pure (length i.rest) found i) (λ found i. slices_repeated (length i.rest) found i) (repeats slice_step pure slice_steps slices_end)
 
 slices_from_shrinks : (turns : ℕ) (found : List Slice) → Shrinks (slices_from turns found)
 unfolding slices_from
@@ -113,16 +111,11 @@ sig_with_takes braces takes = then_takes _ _ (part_takes braces takes) (λ part.
 
 -- ---- concatenations, with the rule of a part
 
--- the end of the parts, or one part more
-part_step : Rule Sig → List Sig → Rule (List Sig × Bool)
-part_step inner found = on sign.RightBrace (stop found) (inner >>= λ s. more (found ++ s ∷ []))
-
 part_steps : (inner : Rule Sig) → Takes inner → (found : List Sig) → Step (part_step inner found)
-unfolding part_step
 part_steps inner takes found = on_step _ _ _ (stop_shrinks found) (then_step _ _ takes (λ s. more_shrinks _))
 
 parts_end : (inner : Rule Sig) → Refuses inner → Ends (part_step inner) (λ _. refuse)
-unfolding part_step sees
+unfolding sees
 parts_end inner refuses state end = ap (λ o. and_then o (λ s. more (state ++ s ∷ []))) (refuses end)
 
 parts_case : (inner : Rule Sig) (b : Bool) (o : Outcome Sig) (turns : ℕ) (found : List Sig) (i : Input)
@@ -134,7 +127,7 @@ parts_case inner false (Err e) turns found i same = refl
 parts_case inner false (Ok (s, j)) turns found i same = same (found ++ s ∷ []) j
 
 parts_repeated : (inner : Rule Sig) (turns : ℕ) (found : List Sig) (i : Input) → parts_from inner turns found i ≡ repeated (part_step inner) (λ _. refuse) turns found i
-unfolding parts_from repeated part_step
+unfolding parts_from repeated
 parts_repeated inner zero found i = refl
 parts_repeated inner (suc turns) found i = parts_case inner (sees sign.RightBrace i) (inner i) turns found (next i) (λ found j. parts_repeated inner turns found j)
 
@@ -170,3 +163,8 @@ parts_enough depth turns found i within =
 
 pub sig_takes_token : (depth : ℕ) → TakesToken (sig_within depth)
 sig_takes_token depth = takes_token (sig_within depth) (sig_within_takes depth) (sig_refuses depth)
+
+pub parts_repeat : (depth : ℕ) → Repeats (part_step (sig_within depth)) (more_parts (sig_within depth))
+parts_repeat depth = repeats_too (part_step (sig_within depth)) (more_parts (sig_within depth)) (λ found i. repeated (part_step (sig_within depth)) (λ _. refuse) (length i.rest) found i)
+    (λ found i. parts_repeated (sig_within depth) (length i.rest) found i)
+    (repeats (part_step (sig_within depth)) (λ _. refuse) (part_steps (sig_within depth) (sig_within_takes depth)) (parts_end (sig_within depth) (sig_refuses depth)))
