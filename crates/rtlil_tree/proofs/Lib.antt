@@ -6,3 +6,4 @@ pub mod Sigs
 pub mod Statements
 pub mod Processes
 pub mod Modules
+pub mod Whole

@@ -21,7 +21,7 @@ no_more : {S : Type 0} (after : S → Rule S) (o : Outcome S) → and_then (last
 no_more after (Ok p) = refl
 no_more after (Err e) = refl
 
-at_end : {S : Type 0} (step : S → Rule (S × Bool)) (ended : S → Rule S) → Ends step ended
+pub at_end : {S : Type 0} (step : S → Rule (S × Bool)) (ended : S → Rule S) → Ends step ended
     → (turns : ℕ) (state : S) (end : Place) → repeated step ended (suc turns) state (record { rest = []; end = end }) ≡ ended state (record { rest = []; end = end })
 unfolding repeated
 at_end step ended ends turns state end =

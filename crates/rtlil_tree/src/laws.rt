@@ -1,9 +1,10 @@
-//! That the bounds in the grammar's definition are never what ends a repetition.
-ghost use Rattle.std.specs.Prelude.{◌≡◌, ◌≤◌, ℕ, List, length, Ok, Err};
+//! Laws of the grammar's definition: the bounds in it are never what ends a repetition, tokens have one tree at most, and
+//! the tree is that of all tokens.
+ghost use Rattle.std.specs.Prelude.{◌≡◌, ◌≤◌, ℕ, List, [], length, Ok, Err};
 ghost use Rattle.rtlil_lexer.specs.declared.fault.TextFault.{TextFault};
 ghost use Rattle.rtlil_lexer.specs.declared.token.Token.{Token};
-ghost use Rattle.rtlil_tree.specs.Input.{Input, pure, refuse, many, up_to_end};
-ghost use Rattle.rtlil_tree.specs.Modules.{module_line, file_line, parsed};
+ghost use Rattle.rtlil_tree.specs.Input.{Input, start, pure, refuse, many, up_to_end};
+ghost use Rattle.rtlil_tree.specs.Modules.{module_line, file_line, file, parsed};
 ghost use Rattle.rtlil_tree.specs.Processes.{body_part, further, switch_part, switch_within, sync_line, sync_part};
 ghost use Rattle.rtlil_tree.specs.Sigs.{slice, slices_from, parts_from, sig_within};
 ghost use Rattle.rtlil_tree.specs.Statements.{wire_option, memory_option, cell_line};
@@ -14,9 +15,14 @@ ghost use Rattle.rtlil_tree.specs.declared.sig.Slice.{Slice};
 
 /// No list of tokens has two trees, two faults, or a tree and a fault.
 pub fn law_of_one_tree()
-    ensures trees { (tokens : List Token) (file other : File) → parsed tokens ≡ Ok file → parsed tokens ≡ Ok other → file ≡ other }
+    ensures trees { (tokens : List Token) (tree other : File) → parsed tokens ≡ Ok tree → parsed tokens ≡ Ok other → tree ≡ other }
     ensures faults { (tokens : List Token) (fault other : TextFault) → parsed tokens ≡ Err fault → parsed tokens ≡ Err other → fault ≡ other }
-    ensures never_both { (tokens : List Token) (file : File) (fault : TextFault) → parsed tokens ≡ Ok file → parsed tokens ≡ Err fault → ⊥ }
+    ensures never_both { (tokens : List Token) (tree : File) (fault : TextFault) → parsed tokens ≡ Ok tree → parsed tokens ≡ Err fault → ⊥ }
+{}
+
+/// Where a file has a tree, no token is left behind it.
+pub fn law_of_whole_file()
+    ensures { (tokens : List Token) (tree : File) (left : Input) → file (start tokens) ≡ Ok (tree, left) → left.rest ≡ [] }
 {}
 
 /// What each step of a repetition leaves is not more than there was, and less where more may come.
