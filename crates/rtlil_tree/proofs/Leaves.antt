@@ -6,7 +6,7 @@ use Rattle.rtlil_lexer.specs.declared.fault.TextFaultKind.{TextFaultKind}
 use Rattle.rtlil_tree.specs.declared.place.Place.{Place}
 use Rattle.rtlil_tree.specs.declared.cursor.Sign.{Sign}
 
--- out of so many tokens
+-- what an outcome leaves of so many tokens, where a tree takes at least so many of them
 abbrev pub Left : {A : Type 0} → (A → ℕ) → ℕ → Outcome A → Type 0
 Left took n (Ok p) = length p.1.rest ≤ n - took p.0
 Left took n (Err e) = Unit {0}

@@ -5,7 +5,7 @@ use Rattle.rtlil_tree.specs.declared.place.Place.{Place}
 use Rattle.rtlil_lexer.specs.declared.token.Token.{Token}
 use Rattle.rtlil_lexer.specs.declared.fault.TextFault.{TextFault}
 use Rattle.rtlil_lexer.specs.declared.fault.TextFaultKind.TheVariants.{Syntax}
-use Rattle.rtlil_tree.specs.Turns.{Enough, Repeats, IsStep, TakesToken}
+use Rattle.rtlil_tree.specs.Turns.{Enough, Repeats, IsRepetition, IsStep, TakesToken}
 use Rattle.rtlil_tree.proofs.Leaves.{Leaves, Left, Takes, Shrinks, one, Step, stepped, none, pure_shrinks, then_leaves, refuse_leaves}
 
 -- the outcome of a last step
@@ -70,7 +70,7 @@ unrolled_from step ended steps ends state (t ∷ ts) end =
     goes_on (repeated step ended (length ts)) (unbounded step ended) (length ts) (step state (record { rest = t ∷ ts; end = end })) (steps state (record { rest = t ∷ ts; end = end }))
     (λ state j within. same step ended steps ends (length ts) (length j.rest) state j within (omega arith))
 
-pub repeats : {S : Type 0} (step : S → Rule (S × Bool)) (ended : S → Rule S) → ((state : S) → Step (step state)) → Ends step ended
+repeats : {S : Type 0} (step : S → Rule (S × Bool)) (ended : S → Rule S) → ((state : S) → Step (step state)) → Ends step ended
     → Repeats step (λ state i. repeated step ended (length i.rest) state i)
 unfolding unbounded
 repeats step ended steps ends state i = unrolled_from step ended steps ends state i.rest i.end
@@ -82,8 +82,36 @@ then_same one other (Ok ((state, true), i)) same = same state i
 then_same one other (Ok ((state, false), i)) same = refl
 
 -- what reads the same repeats the same step
-pub repeats_too : {S : Type 0} (step : S → Rule (S × Bool)) (one other : S → Rule S) → ((state : S) (i : Input) → one state i ≡ other state i) → Repeats step other → Repeats step one
+repeats_too : {S : Type 0} (step : S → Rule (S × Bool)) (one other : S → Rule S) → ((state : S) (i : Input) → one state i ≡ other state i) → Repeats step other → Repeats step one
 repeats_too step one other same known state i = same state i ∙ known state i ∙ sym (then_same one other (step state i) same)
+
+one_only : {S : Type 0} (step : S → Rule (S × Bool)) (ended one other : S → Rule S) → ((state : S) → Step (step state)) → Ends step ended → Repeats step one → Repeats step other
+    → (bound : ℕ) (state : S) (rest : List Token) (end : Place) → length rest ≤ bound → one state (record { rest = rest; end = end }) ≡ other state (record { rest = rest; end = end })
+unfolding Leaves
+one_only step ended one other steps ends first second bound state [] end within =
+    first state (record { rest = []; end = end })
+    ∙ ap (λ o. and_then o (λ p. if p.1 then one p.0 else pure p.0)) (ends state end) ∙ no_more one (ended state (record { rest = []; end = end }))
+    ∙ sym (second state (record { rest = []; end = end }) ∙ ap (λ o. and_then o (λ p. if p.1 then other p.0 else pure p.0)) (ends state end) ∙ no_more other (ended state (record { rest = []; end = end })))
+one_only step ended one other steps ends first second zero state (t ∷ ts) end within = absurd (omega arith)
+one_only step ended one other steps ends first second (suc bound) state (t ∷ ts) end within =
+    first state (record { rest = t ∷ ts; end = end })
+    ∙ goes_on one other (length ts) (step state (record { rest = t ∷ ts; end = end })) (steps state (record { rest = t ∷ ts; end = end }))
+    (λ state j less. one_only step ended one other steps ends first second bound state j.rest j.end (omega arith))
+    ∙ sym (second state (record { rest = t ∷ ts; end = end }))
+
+pub repetition : {S : Type 0} (step : S → Rule (S × Bool)) (ended : S → Rule S) → ((state : S) → Step (step state)) → Ends step ended
+    → IsRepetition step (λ state i. repeated step ended (length i.rest) state i)
+repetition {S} step ended steps ends = (
+  repeats step ended steps ends,
+  (λ other known state i. one_only step ended other (λ state i. repeated step ended (length i.rest) state i) steps ends known (repeats step ended steps ends) (length i.rest) state i.rest i.end (omega arith)),
+)
+
+-- what reads the same is it too
+pub repetition_too : {S : Type 0} (step : S → Rule (S × Bool)) (one other : S → Rule S) → ((state : S) (i : Input) → one state i ≡ other state i) → IsRepetition step other → IsRepetition step one
+repetition_too step one other same is = (
+  repeats_too step one other same is.0,
+  (λ another known state i. is.1 another known state i ∙ sym (same state i)),
+)
 
 -- ---- a step after which more may come takes a token
 

@@ -11,9 +11,9 @@ use Rattle.rtlil_tree.specs.declared.sig.Slice.{Slice}
 use Rattle.rtlil_tree.specs.declared.sig.Sig.{Sig}
 use Rattle.rtlil_tree.specs.Input.{Input, Outcome, Rule, and_then, pure, refuse, sees, kind, next, more, repeated, natural}
 use Rattle.rtlil_tree.specs.Sigs.{constant, constant_by, slice, slices, slices_from, part_with, sig_with, parts, parts_from, braces_within, sig, sig_within, deepest}
-use Rattle.rtlil_tree.specs.Turns.{TakesToken, Repeats, slice_step, part_step, more_slices, more_parts}
+use Rattle.rtlil_tree.specs.Turns.{TakesToken, IsRepetition, slice_step, part_step, more_slices, more_parts}
 use Rattle.rtlil_tree.proofs.Leaves.{Leaves, Left, Takes, Shrinks, Step, one, none, one_few, pure_shrinks, more_shrinks, stop_step, stop_shrinks, then_step, then_takes, then_shrinks, on_step, on_shrinks, next_left, taken, takes_shrinks, fail_leaves, refuse_leaves}
-use Rattle.rtlil_tree.proofs.Repeated.{Ends, enough, repeats, repeats_too, Refuses, takes_token}
+use Rattle.rtlil_tree.proofs.Repeated.{Ends, enough, repetition, repetition_too, Refuses, takes_token}
 use Rattle.rtlil_tree.proofs.Tokens.{natural_takes, expect_takes}
 
 constant_taken : (k : Option TokenKind) (i : Input) → Left one (length i.rest) (constant_by k i)
@@ -66,8 +66,8 @@ slices_repeated (suc turns) found i = slices_case (sees sign.LeftBracket i) (sli
 pub slices_enough : (turns : ℕ) (found : List Slice) (i : Input) → length i.rest ≤ turns → slices_from turns found i ≡ slices_from (length i.rest) found i
 slices_enough turns found i within = slices_repeated turns found i ∙ enough slice_step pure slice_steps slices_end turns found i within ∙ sym (slices_repeated (length i.rest) found i)
 
-pub slices_repeat : Repeats slice_step more_slices
-slices_repeat = repeats_too slice_step more_slices (λ found i. repeated slice_step pure (length i.rest) found i) (λ found i. slices_repeated (length i.rest) found i) (repeats slice_step pure slice_steps slices_end)
+pub slices_repeat : IsRepetition slice_step more_slices
+slices_repeat = repetition_too slice_step more_slices (λ found i. repeated slice_step pure (length i.rest) found i) (λ found i. slices_repeated (length i.rest) found i) (repetition slice_step pure slice_steps slices_end)
 
 slices_from_shrinks : (turns : ℕ) (found : List Slice) → Shrinks (slices_from turns found)
 unfolding slices_from
@@ -164,7 +164,7 @@ parts_enough depth turns found i within =
 pub sig_takes_token : (depth : ℕ) → TakesToken (sig_within depth)
 sig_takes_token depth = takes_token (sig_within depth) (sig_within_takes depth) (sig_refuses depth)
 
-pub parts_repeat : (depth : ℕ) → Repeats (part_step (sig_within depth)) (more_parts (sig_within depth))
-parts_repeat depth = repeats_too (part_step (sig_within depth)) (more_parts (sig_within depth)) (λ found i. repeated (part_step (sig_within depth)) (λ _. refuse) (length i.rest) found i)
+pub parts_repeat : (depth : ℕ) → IsRepetition (part_step (sig_within depth)) (more_parts (sig_within depth))
+parts_repeat depth = repetition_too (part_step (sig_within depth)) (more_parts (sig_within depth)) (λ found i. repeated (part_step (sig_within depth)) (λ _. refuse) (length i.rest) found i)
     (λ found i. parts_repeated (sig_within depth) (length i.rest) found i)
-    (repeats (part_step (sig_within depth)) (λ _. refuse) (part_steps (sig_within depth) (sig_within_takes depth)) (parts_end (sig_within depth) (sig_refuses depth)))
+    (repetition (part_step (sig_within depth)) (λ _. refuse) (part_steps (sig_within depth) (sig_within_takes depth)) (parts_end (sig_within depth) (sig_refuses depth)))

@@ -1,4 +1,4 @@
--- What bounds on turns say.
+-- Words for the laws of what the grammar has in braces.
 use Rattle.std.specs.Prelude.{◌≡◌, ◌≤◌, ◌<◌, ℕ, ◌+◌, Bool, List, [], ◌∷◌, ◌++◌, length, Ok, if◌then◌else◌}
 use Rattle.rtlil_tree.specs.declared.cursor.Sign.TheVariants as sign
 use Rattle.rtlil_tree.specs.declared.sig.Slice.{Slice}
@@ -21,6 +21,10 @@ TakesToken {A} rule = (a : A) (i j : Input) → rule i ≡ Ok (a, j) → length 
 -- as the grammar says it, with no bound: a step, and the same again where more may come
 abbrev pub Repeats : {S : Type 0} → (S → Rule (S × Bool)) → (S → Rule S) → Type 0
 Repeats {S} step all = (state : S) (i : Input) → all state i ≡ (step state >>= λ p. if p.1 then all p.0 else pure p.0) i
+
+-- the same, and no other rule is so
+abbrev pub IsRepetition : {S : Type 0} → (S → Rule (S × Bool)) → (S → Rule S) → Type 0
+IsRepetition {S} step all = Repeats step all × ((other : S → Rule S) → Repeats step other → (state : S) (i : Input) → other state i ≡ all state i)
 
 -- one slice more, if there is one
 abbrev pub slice_step : List Slice → Rule (List Slice × Bool)

@@ -8,7 +8,7 @@ ghost use Rattle.rtlil_tree.specs.Modules.{module_line, file_line, file, parsed}
 ghost use Rattle.rtlil_tree.specs.Processes.{body_part, further, switch_part, switch_within, sync_line, sync_part};
 ghost use Rattle.rtlil_tree.specs.Sigs.{slice, slices_from, parts_from, sig_within};
 ghost use Rattle.rtlil_tree.specs.Statements.{wire_option, memory_option, cell_line};
-ghost use Rattle.rtlil_tree.specs.Turns.{Enough, Repeats, IsStep, TakesToken, slice_step, part_step, more_slices, more_parts};
+ghost use Rattle.rtlil_tree.specs.Turns.{Enough, IsRepetition, IsStep, TakesToken, slice_step, part_step, more_slices, more_parts};
 ghost use Rattle.rtlil_tree.specs.declared.module.File.{File};
 ghost use Rattle.rtlil_tree.specs.declared.sig.Sig.{Sig};
 ghost use Rattle.rtlil_tree.specs.declared.sig.Slice.{Slice};
@@ -43,20 +43,21 @@ pub fn law_of_steps()
     ensures files { IsStep file_line }
 {}
 
-/// What the grammar has in braces is read as it says, with no bound: a step, and the same again where more may come.
+/// What the grammar has in braces is read as it says, with no bound: by the one rule that is a step, and the same again
+/// where more may come.
 pub fn law_of_repetition()
-    ensures slices { Repeats slice_step more_slices }
-    ensures concatenations { (depth : ℕ) → Repeats (part_step (sig_within depth)) (more_parts (sig_within depth)) }
-    ensures wires { Repeats wire_option (many wire_option) }
-    ensures memories { Repeats memory_option (many memory_option) }
-    ensures cells { Repeats cell_line (up_to_end cell_line) }
-    ensures sigs_of_a_case { Repeats further (many further) }
-    ensures bodies { (depth : ℕ) → Repeats (body_part (switch_within depth)) (many (body_part (switch_within depth))) }
-    ensures switches { (depth : ℕ) → Repeats (switch_part (switch_within depth)) (up_to_end (switch_part (switch_within depth))) }
-    ensures updates { Repeats sync_line (many sync_line) }
-    ensures syncs { Repeats sync_part (many sync_part) }
-    ensures modules { Repeats module_line (up_to_end module_line) }
-    ensures files { Repeats file_line (many file_line) }
+    ensures slices { IsRepetition slice_step more_slices }
+    ensures concatenations { (depth : ℕ) → IsRepetition (part_step (sig_within depth)) (more_parts (sig_within depth)) }
+    ensures wires { IsRepetition wire_option (many wire_option) }
+    ensures memories { IsRepetition memory_option (many memory_option) }
+    ensures cells { IsRepetition cell_line (up_to_end cell_line) }
+    ensures sigs_of_a_case { IsRepetition further (many further) }
+    ensures bodies { (depth : ℕ) → IsRepetition (body_part (switch_within depth)) (many (body_part (switch_within depth))) }
+    ensures switches { (depth : ℕ) → IsRepetition (switch_part (switch_within depth)) (up_to_end (switch_part (switch_within depth))) }
+    ensures updates { IsRepetition sync_line (many sync_line) }
+    ensures syncs { IsRepetition sync_part (many sync_part) }
+    ensures modules { IsRepetition module_line (up_to_end module_line) }
+    ensures files { IsRepetition file_line (many file_line) }
 {}
 
 /// Any number of turns that is at least the number of tokens left gives the same.
