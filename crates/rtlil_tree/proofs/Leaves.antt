@@ -44,7 +44,7 @@ then_left some other took n (Ok p) f less left leaves = weaken other took (lengt
 then_left some other took n (Err e) f less left leaves = tt
 
 -- the rule goes on with the same tokens whichever way a test goes
-pub if_left : {A : Type 0} (took : A → ℕ) (n : ℕ) (b : Bool) (x y : Outcome A) → Left took n x → Left took n y → Left took n (if b then x else y)
+if_left : {A : Type 0} (took : A → ℕ) (n : ℕ) (b : Bool) (x y : Outcome A) → Left took n x → Left took n y → Left took n (if b then x else y)
 if_left took n true x y first second = first
 if_left took n false x y first second = second
 
@@ -73,11 +73,11 @@ pub place_leaves : {A : Type 0} (took : A → ℕ) (r : Place → Rule A) → ((
 unfolding Leaves
 place_leaves took r each = λ i. each (place i) i
 
-pub on_leaves : {A : Type 0} (took : A → ℕ) (few : (a : A) → took a ≤ 1) (s : Sign) (found other : Rule A) → Shrinks found → Leaves took other → Leaves took (on s found other)
+on_leaves : {A : Type 0} (took : A → ℕ) (few : (a : A) → took a ≤ 1) (s : Sign) (found other : Rule A) → Shrinks found → Leaves took other → Leaves took (on s found other)
 unfolding Leaves
 on_leaves took few s found other first second = λ i. if_left took (length i.rest) (sees s i) (found (next i)) (other i) (next_left took i found few first) (second i)
 
-pub on_word_leaves : {A : Type 0} (took : A → ℕ) (few : (a : A) → took a ≤ 1) (text : List ℕ) (found other : Rule A) → Shrinks found → Leaves took other → Leaves took (on_word text found other)
+on_word_leaves : {A : Type 0} (took : A → ℕ) (few : (a : A) → took a ≤ 1) (text : List ℕ) (found other : Rule A) → Shrinks found → Leaves took other → Leaves took (on_word text found other)
 unfolding Leaves
 on_word_leaves took few text found other first second = λ i. if_left took (length i.rest) (sees_word text i) (found (next i)) (other i) (next_left took i found few first) (second i)
 
@@ -100,7 +100,7 @@ fail_leaves took what = λ i. tt
 
 -- ---- the three kinds
 
-pub zero_few : {A : Type 0} (a : A) → none a ≤ 1
+zero_few : {A : Type 0} (a : A) → none a ≤ 1
 zero_few a = omega arith
 
 pub one_few : {A : Type 0} (a : A) → one a ≤ 1
@@ -110,7 +110,7 @@ if_few : (b : Bool) → (if b then 1 else 0) ≤ 1
 if_few true = omega arith
 if_few false = omega arith
 
-pub stepped_few : {S : Type 0} (p : S × Bool) → stepped p ≤ 1
+stepped_few : {S : Type 0} (p : S × Bool) → stepped p ≤ 1
 stepped_few p = if_few p.1
 
 pub on_shrinks : {A : Type 0} (s : Sign) (found other : Rule A) → Shrinks found → Shrinks other → Shrinks (on s found other)
@@ -144,10 +144,6 @@ then_step p f = then_leaves one none stepped p f (λ n a b. let few = stepped_fe
 pub takes_shrinks : {A : Type 0} (r : Rule A) → Takes r → Shrinks r
 unfolding Leaves
 takes_shrinks r takes = λ i. weaken one none (length i.rest) (length i.rest) (r i) (λ a. omega arith) (takes i)
-
-pub step_shrinks : {S : Type 0} (r : Rule (S × Bool)) → Step r → Shrinks r
-unfolding Leaves
-step_shrinks r steps = λ i. weaken stepped none (length i.rest) (length i.rest) (r i) (λ a. omega arith) (steps i)
 
 pub stop_step : {S : Type 0} (state : S) → Step (stop state)
 unfolding Leaves

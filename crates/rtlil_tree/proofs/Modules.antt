@@ -27,7 +27,7 @@ statement_takes waiting =
     word_takes _ _ _ (mapped statement.Connect _ assignment_shrinks) (
     place_leaves one _ (λ at. word_takes (codes "process") (statement.Process <$> process at) refuse (mapped statement.Process _ (process_shrinks at)) (refuse_leaves one)))))))
 
-pub statement_line_steps : (draft : Statements) → Step (statement_line draft)
+statement_line_steps : (draft : Statements) → Step (statement_line draft)
 unfolding statement_line
 statement_line_steps draft = then_step _ _ (statement_takes draft.waiting) (λ s. more_shrinks _)
 

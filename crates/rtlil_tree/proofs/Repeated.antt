@@ -167,7 +167,7 @@ either true x y first second = first
 either false x y first second = second
 
 -- a repetition leaves no more than there was
-pub repeated_shrinks : {S : Type 0} (step : S → Rule (S × Bool)) (ended : S → Rule S) → ((state : S) → Step (step state)) → ((state : S) → Shrinks (ended state))
+repeated_shrinks : {S : Type 0} (step : S → Rule (S × Bool)) (ended : S → Rule S) → ((state : S) → Step (step state)) → ((state : S) → Shrinks (ended state))
     → (turns : ℕ) (state : S) → Shrinks (repeated step ended turns state)
 unfolding repeated
 repeated_shrinks step ended steps ends zero state = ends state

@@ -105,7 +105,7 @@ part_takes : (braces : Rule (List Sig)) → Takes braces → Takes (part_with br
 unfolding Leaves
 part_takes braces takes = λ i. part_left braces i.rest i.end takes
 
-pub sig_with_takes : (braces : Rule (List Sig)) → Takes braces → Takes (sig_with braces)
+sig_with_takes : (braces : Rule (List Sig)) → Takes braces → Takes (sig_with braces)
 unfolding sig_with
 sig_with_takes braces takes = then_takes _ _ (part_takes braces takes) (λ part. then_shrinks _ _ slices_shrinks (λ found. pure_shrinks _))
 
@@ -145,13 +145,13 @@ unfolding braces_within Leaves
 braces_takes zero = fail_leaves {A = List Sig} one Nesting
 braces_takes (suc depth) = λ i. next_left one i (parts (sig_with (braces_within depth))) one_few (parts_shrinks _ (sig_with_takes _ (braces_takes depth)))
 
-pub sig_within_takes : (depth : ℕ) → Takes (sig_within depth)
+sig_within_takes : (depth : ℕ) → Takes (sig_within depth)
 sig_within_takes depth = sig_with_takes (braces_within depth) (braces_takes depth)
 
 pub sig_takes : Takes sig
 sig_takes = sig_within_takes deepest
 
-pub sig_refuses : (depth : ℕ) → Refuses (sig_within depth)
+sig_refuses : (depth : ℕ) → Refuses (sig_within depth)
 unfolding sig_with part_with sees constant
 sig_refuses depth end = refl
 
