@@ -4,3 +4,4 @@ pub mod Statements
 pub mod Processes
 pub mod Modules
 pub mod Attributes
+pub mod Turns

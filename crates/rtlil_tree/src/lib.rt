@@ -7,6 +7,7 @@ mod attribute;
 mod cursor;
 mod draft;
 mod file;
+mod laws;
 mod module;
 mod place;
 mod process;
@@ -18,6 +19,7 @@ mod tests;
 
 pub use attribute::attribute_value;
 pub use file::parse;
+pub use laws::{law_of_one_tree, law_of_repetition, law_of_steps, law_of_turns, law_of_whole_file};
 pub use module::{
     Assignment, Attribute, Cell, Connection, File, Memory, MemoryOptions, Module, Parameter,
     ParameterKind, Setting, Statement, Wire, WireOptions,
