@@ -411,7 +411,7 @@ fn the_last_of_two_options_counts(rt: HostRuntime) -> Result<(), Fail> {
 
 #[test]
 fn the_first_token_that_fits_no_rule_is_answered(rt: HostRuntime) -> Result<(), Fail> {
-    let cases: [(&[u8], &str); 62] = [
+    let cases: [(&[u8], &str); 89] = [
         (b"module \\m\nfoo", "Syntax 2 1"),
         (b"foo\n", "Syntax 1 1"),
         (b"end\n", "Syntax 1 1"),
@@ -494,6 +494,42 @@ fn the_first_token_that_fits_no_rule_is_answered(rt: HostRuntime) -> Result<(), 
         (
             b"module \\m\nprocess $p\nsync init\nassign 1 1\n",
             "Syntax 4 1",
+        ),
+        (b"attribute\n", "Syntax 1 10"),
+        (b"module \\m\nparameter real\n", "Syntax 2 15"),
+        (b"module \\m\nwire output \\w\n", "Syntax 2 13"),
+        (b"module \\m\nwire inout \\w\n", "Syntax 2 12"),
+        (b"module \\m\nmemory\n", "Syntax 2 7"),
+        (b"module \\m\nmemory offset \\m\n", "Syntax 2 15"),
+        (b"module \\m\nmemory \\m 1\n", "Syntax 2 11"),
+        (b"module \\m\ncell\n", "Syntax 2 5"),
+        (b"module \\m\ncell \\t \\c\n", "Syntax 2 11"),
+        (b"module \\m\ncell \\t \\c\nparameter 1\n", "Syntax 3 11"),
+        (
+            b"module \\m\ncell \\t \\c\nparameter \\p 1 2\n",
+            "Syntax 3 16",
+        ),
+        (
+            b"module \\m\ncell \\t \\c\nconnect \\p 1 2\n",
+            "Syntax 3 14",
+        ),
+        (b"module \\m\ncell \\t \\c\nend x\n", "Syntax 3 5"),
+        (b"module \\m\nconnect\n", "Syntax 2 8"),
+        (b"module \\m\nconnect \\a [1 1\n", "Syntax 2 15"),
+        (b"module \\m\nconnect \\a [1:\n", "Syntax 2 15"),
+        (b"module \\m\nprocess $p 1\n", "Syntax 2 12"),
+        (b"module \\m\nprocess $p\n", "Syntax 2 11"),
+        (b"module \\m\nprocess $p\nassign\n", "Syntax 3 7"),
+        (b"module \\m\nprocess $p\nassign 1 1 1\n", "Syntax 3 12"),
+        (b"module \\m\nprocess $p\nswitch\n", "Syntax 3 7"),
+        (b"module \\m\nprocess $p\nswitch 1\nend x\n", "Syntax 4 5"),
+        (b"module \\m\nprocess $p\nsync\n", "Syntax 3 5"),
+        (b"module \\m\nprocess $p\nsync foo\n", "Syntax 3 6"),
+        (b"module \\m\nprocess $p\nsync posedge 1 2\n", "Syntax 3 16"),
+        (b"module \\m\nprocess $p\nsync init\nupdate\n", "Syntax 4 7"),
+        (
+            b"module \\m\nprocess $p\nsync init\nupdate 1\n",
+            "Syntax 4 9",
         ),
     ];
     for (text, want) in cases {
