@@ -7,7 +7,6 @@ mod Multiples
 mod Texts
 mod Tested
 mod Slots
-mod Copies
 mod Gathered
 mod Still
 mod Widths

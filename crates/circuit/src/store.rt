@@ -36,15 +36,6 @@ impl Store {
     }
 }
 
-fn copy_of_bits(alloc: Global, bits: &Bits) -> Result<Bits, NoMemory>
-    ensures { IfOk result (λ copy. copy ≡ bits.now) }
-{
-    let width = bits.width();
-    let mut copy = Bits::zero(alloc, width)?;
-    copy.copy(0, bits, 0, width);
-    Ok(copy)
-}
-
 fn start_nets(alloc: Global, nets: &[Net]) -> Result<Items<Bits>, NoMemory>
     ensures { IfOk result (λ values. values ≡ map (λ n. zeros n.width) nets.now) }
 {
@@ -70,7 +61,7 @@ fn start_regs(alloc: Global, regs: &[Reg]) -> Result<Items<Bits>, NoMemory>
 {
     let mut values = Items::new(alloc);
     for reg in regs {
-        values.push(copy_of_bits(alloc, &reg.init)?)?;
+        values.push(reg.init.try_clone(alloc)?)?;
     }
     Ok(values)
 }
@@ -79,7 +70,7 @@ fn start_read(alloc: Global, mem: &Mem, port: &ReadPort) -> Result<Bits, NoMemor
     ensures { IfOk result (λ value. value ≡ start_read mem.now port.now) }
 {
     if port.clocked {
-        copy_of_bits(alloc, &port.init)
+        port.init.try_clone(alloc)
     } else {
         Bits::zero(alloc, mem.width)
     }

@@ -6,7 +6,7 @@ ghost use Rattle.flat_design.specs.Ports.{place_of, wire_piece, digits_piece, pi
 ghost use Rattle.circuit.specs.Signal.{piece_width};
 
 use crate::names::is_named;
-use crate::wires::{copy_of_bits, is_word_width};
+use crate::wires::is_word_width;
 use circuit::Piece;
 use flat_text::{Cell, Connection, Constant, FlatFault, Operand, Parameter, Wire};
 use sim_base::{Bits, Name};
@@ -63,7 +63,7 @@ fn digits_piece(alloc: Global, digits: &Bits) -> Result<Piece, FlatFault>
     if !is_word_width(digits.width()) {
         return Err(FlatFault::NotBuilt);
     }
-    Ok(Piece::Const(copy_of_bits(alloc, digits)?))
+    Ok(Piece::Const(digits.try_clone(alloc)?))
 }
 
 fn connection_at<'a>(connections: &'a [Connection], port: &[u8]) -> Option<&'a Connection>

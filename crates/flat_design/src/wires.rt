@@ -69,17 +69,6 @@ pub fn is_wire(wire: &Wire) -> bool
         && (count_of_inits(attributes) <= 1 && are_inits_of(wire.width, attributes))
 }
 
-/// A copy of a value.
-pub fn copy_of_bits(alloc: Global, bits: &Bits) -> Result<Bits, FlatFault>
-    ensures ok { IfOk result (λ b. b ≡ bits.now) }
-    ensures memory { result ≢ Err FlatFault.NotBuilt }
-{
-    let width = bits.width();
-    let mut copy = Bits::zero(alloc, width)?;
-    copy.copy(0, bits, 0, width);
-    Ok(copy)
-}
-
 fn find_init(attributes: &[Attribute]) -> Option<&Attribute>
     ensures { option_copied result ≡ find is_init attributes.now }
 {
@@ -91,7 +80,7 @@ fn digits_or_zeros(alloc: Global, width: u32, value: &Constant) -> Result<Bits, 
     ensures memory { result ≢ Err FlatFault.NotBuilt }
 {
     match value {
-        Constant::Digits(digits) => copy_of_bits(alloc, digits),
+        Constant::Digits(digits) => Ok(digits.try_clone(alloc)?),
         _ => Ok(Bits::zero(alloc, width)?),
     }
 }

@@ -35,6 +35,17 @@ impl Bits {
         Ok(Bits { words, width })
     }
 
+    /// A copy of the value.
+    pub fn try_clone(&self, alloc: Global) -> Result<Bits, NoMemory>
+        ensures { IfOk result (λ copy. copy ≡ self.now) }
+    {
+        let words = Vec::from_slice(alloc, self.words.as_slice())?;
+        Ok(Bits {
+            words,
+            width: self.width,
+        })
+    }
+
     /// Makes the number 0.
     pub fn clear(&mut self)
         ensures { self.new ≡ zeros self.old.width }

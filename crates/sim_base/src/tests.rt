@@ -88,7 +88,10 @@ fn values_are_the_same_in_width_and_number(rt: HostRuntime) -> Result<(), Fail> 
     other.set(199, true);
     assert!(rt; !one.same(&other));
     assert_eq!(rt; one.field(60, 10), 0b10_0100_1001);
+    let copy = one.try_clone(rt.alloc())?;
+    assert!(rt; copy.same(&one));
     one.clear();
+    assert!(rt; !one.same(&copy));
     assert!(rt; one.same(&Bits::zero(rt.alloc(), 200)?));
     assert!(rt; !one.same(&Bits::zero(rt.alloc(), 199)?));
     Ok(())
