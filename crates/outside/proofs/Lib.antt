@@ -1,2 +1,3 @@
 pub mod ShelvesLemmas
 pub mod SinkLemmas
+pub mod SourceLemmas

@@ -1,7 +1,10 @@
+pub mod Bytes
 pub mod Calls
 pub mod Faults
 pub mod Gathered
+pub mod Reader
 pub mod Shelf
 pub mod Shelves
 pub mod Sink
+pub mod Source
 pub mod Stream

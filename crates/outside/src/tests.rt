@@ -1,10 +1,11 @@
 //! Each object through its trait.
 use crate::{
-    Files, Gathered, Put, Shelf, ShelfFault, Shelves, Sink, SinkFault, StdErr, StdOut, Stream,
-    put_all,
+    Bytes, Files, Gathered, Got, Put, Reader, Shelf, ShelfFault, Shelves, Sink, SinkFault, Source,
+    StdErr, StdIn, StdOut, Stream, put_all,
 };
 use sim_base::Name;
 use std::alloc::Global;
+use std::io::{self, ErrorKind, Read};
 use std::test::Fail;
 
 fn read<S: Shelf>(
@@ -155,4 +156,107 @@ fn a_stream_fails_where_its_writer_takes_nothing(rt: HostRuntime) {
 fn the_standard_streams_take_bytes(rt: HostRuntime) {
     assert_eq!(rt; put_all(&mut StdOut::new(rt.stdout()), b"out\n"), Ok(()));
     assert_eq!(rt; put_all(&mut StdErr::new(rt.stderr()), b"err\n"), Ok(()));
+}
+
+/// The answer of a read of a source, and the bytes that it gave.
+fn read_piece<'b, S: Source>(source: &mut S, buffer: &'b mut [u8; 3]) -> (Got, &'b [u8]) {
+    let got = source.read(buffer);
+    match got {
+        Got::Bytes(count) => (got, &buffer[..count]),
+        _ => (got, b""),
+    }
+}
+
+#[test]
+fn a_source_in_memory_gives_its_bytes_once(rt: HostRuntime) -> Result<(), Fail> {
+    let alloc = rt.alloc();
+    let mut bytes = Bytes::new(alloc, b"hello world".to_vec(alloc)?).failing(vec![in alloc; 2, 5]?);
+    let rows: [(usize, Got, &[u8], &[u8]); 8] = [
+        (9, Got::Bytes(3), b"hel", b"lo world"),
+        (9, Got::Failed, b"", b"lo world"),
+        (1, Got::Bytes(1), b"l", b"o world"),
+        (2, Got::Bytes(2), b"o ", b"world"),
+        (2, Got::Failed, b"", b"world"),
+        (9, Got::Bytes(3), b"wor", b"ld"),
+        (9, Got::Bytes(2), b"ld", b""),
+        (9, Got::End, b"", b""),
+    ];
+    for (most, want, given, left) in rows {
+        bytes = bytes.giving(most);
+        let mut buffer = [b'.'; 3];
+        assert_eq!(rt; read_piece(&mut bytes, &mut buffer), (want, given));
+        assert_eq!(rt; bytes.left(), left);
+    }
+    assert_eq!(rt; bytes.faults(), 2);
+    let mut buffer = [b'.'; 3];
+    assert_eq!(rt; bytes.read(&mut buffer), Got::End);
+    assert_eq!(rt;
+        Bytes::new(alloc, Vec::new(alloc)).read(&mut buffer),
+        Got::End
+    );
+    Ok(())
+}
+
+#[test]
+fn a_reader_is_a_source_of_its_bytes(rt: HostRuntime) {
+    let mut reader = Reader::new(b"stdin".as_slice());
+    let rows: [(Got, &[u8]); 4] = [
+        (Got::Bytes(3), b"std"),
+        (Got::Bytes(2), b"in"),
+        (Got::End, b""),
+        (Got::End, b""),
+    ];
+    for (want, given) in rows {
+        let mut buffer = [b'.'; 3];
+        assert_eq!(rt; read_piece(&mut reader, &mut buffer), (want, given));
+    }
+}
+
+/// A reader that is interrupted, fails, gives one byte, gives nothing, and then gives bytes again.
+#[derive(Drop)]
+struct Faulty {
+    calls: u64,
+}
+
+impl Read for Faulty {
+    fn read(&mut self, buf: &mut [u8]) -> io::Result<usize> {
+        self.calls = self.calls.saturating_add(1);
+        match self.calls {
+            1 | 3 => Err(ErrorKind::Interrupted.into()),
+            2 => Err(ErrorKind::ConnectionReset.into()),
+            5 => Ok(0),
+            _ => {
+                if buf.is_empty() {
+                    return Ok(0);
+                }
+                buf[0] = b'x';
+                Ok(1)
+            }
+        }
+    }
+}
+
+#[test]
+fn a_reader_is_read_again_where_it_was_interrupted_and_never_behind_its_end(rt: HostRuntime) {
+    let mut reader = Reader::new(Faulty { calls: 0 });
+    let rows: [(Got, &[u8]); 4] = [
+        (Got::Failed, b""),
+        (Got::Bytes(1), b"x"),
+        (Got::End, b""),
+        (Got::End, b""),
+    ];
+    for (want, given) in rows {
+        let mut buffer = [b'.'; 3];
+        assert_eq!(rt; read_piece(&mut reader, &mut buffer), (want, given));
+    }
+}
+
+#[test]
+fn the_standard_input_comes_to_its_end(rt: HostRuntime) {
+    let mut input = StdIn::new(rt.stdin());
+    let mut buffer = [b'.'; 3];
+    assert_eq!(rt;
+        read_piece(&mut input, &mut buffer),
+        (Got::End, b"".as_slice())
+    );
 }
