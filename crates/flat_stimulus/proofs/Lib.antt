@@ -3,3 +3,4 @@ pub mod Options
 pub mod Columns
 pub mod Values
 pub mod Facts
+pub mod Until

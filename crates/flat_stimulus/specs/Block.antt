@@ -23,9 +23,10 @@ row_of b k =
     let row = slice_index_or b.rows (k % length b.rows) no_row in
     record { time = k / length b.rows * b.period + row.offset; inputs = map (λ column. slice_index row.values column) b.columns }
 
--- what holds of a block that was read: it has rows, its samples and its end are within the limits, each row
+-- what holds of a block that was read: it comes once at least and has rows, its samples and its end are within the limits, each row
 -- comes before the period ends and has a value in each column that an input has
 pub record IsBlock (b : Block) : Type 0 where
+  pub comes : 1 ≤ b.repeats
   pub some : 1 ≤ length b.rows
   pub few : sample_count b ≤ 16777216
   pub ends : b.repeats * b.period ≤ largest_time

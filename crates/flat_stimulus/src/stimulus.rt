@@ -1,10 +1,12 @@
 //! A stimulus of one block, read from its text.
-ghost use Rattle.std.specs.Prelude.{◌≡◌, ℕ, ◌<◌, ◌≤◌, ◌^◌, Err, None, Some, IfOk, MatchOption, bytes_eq, length, map, slice_get, slice_index};
+ghost use Rattle.std.specs.Prelude.{◌≡◌, ℕ, ◌<◌, ◌≤◌, ◌^◌, Err, None, Some, IfOk, MatchOption, bytes_eq, length, map, nat_le, slice_get, slice_index};
+ghost use Rattle.std.specs.List.{count_by};
 ghost use Rattle.circuit.specs.declared.netlist.Net.{Net};
 ghost use Rattle.flat_design.specs.Flat.{IsFlat};
 ghost use Rattle.flat_stimulus.specs.Block.{row_of, sample_count};
 ghost use Rattle.flat_stimulus.specs.declared.row.BlockRow.{BlockRow as TheRow};
 ghost use Rattle.flat_stimulus.specs.Text.{before_end, block_in, block_of, block_of_lines, columns_of, head_from, head_of, limited, repeats_of};
+ghost use Rattle.flat_stimulus.specs.Until.{samples_until};
 
 use crate::column::{Column, columns_of, line_of, numbers_of};
 use crate::row::{BlockRow, read_rows};
@@ -48,6 +50,7 @@ impl FlatStimulus {
     /// How many samples there are.
     pub fn count(&self) -> u64
         ensures value { result ≡ sample_count self.now }
+        ensures some { 1 ≤ result }
         ensures most { result ≤ 16777216 }
     {
         self.repeats * self.rows.len() as u64
@@ -66,6 +69,35 @@ impl FlatStimulus {
         let start = u128::from(k / count) * self.period.femtoseconds();
         Time::of(start + row.offset.femtoseconds()).unwrap()
     }
+
+    /// How many samples are at or before a time. The periods before it are counted without a look at their
+    /// rows.
+    pub fn count_until(&self, time: Time) -> u64
+        ensures value { result ≡ samples_until (row_of self.now) (sample_count self.now) time }
+        ensures most { result ≤ sample_count self.now }
+    {
+        let periods = time.femtoseconds() / self.period.femtoseconds();
+        if periods >= u128::from(self.repeats) {
+            return self.count();
+        }
+        let rows = self.rows.as_slice();
+        let rest = time.femtoseconds() % self.period.femtoseconds();
+        periods as u64 * rows.len() as u64 + rows_until(rows, rest)
+    }
+}
+
+/// How many rows have offsets of at most so many femtoseconds.
+fn rows_until(rows: &[BlockRow], most: u128) -> u64
+    ensures value { result ≡ count_by (λ row. nat_le row.offset most) rows.now }
+    ensures most { result ≤ length rows.now }
+{
+    let mut count = 0;
+    for row in rows {
+        if row.offset.femtoseconds() <= most {
+            count += 1;
+        }
+    }
+    count
 }
 
 /// Writes for each input the value in its column.
@@ -144,7 +176,7 @@ fn limit(
     rows: Items<BlockRow>,
     columns: Items<usize>,
 ) -> Result<FlatStimulus, FlatFault>
-    requires repeats { repeats ≤ 4294967295 }
+    requires repeats { (1 ≤ repeats) × (repeats ≤ 4294967295) }
     requires before { (i : ℕ) (row : TheRow) → slice_get rows i ≡ Some row → row.offset < period }
     requires values { (i : ℕ) (row : TheRow) → slice_get rows i ≡ Some row → (n : ℕ) → n < length columns → slice_index columns n < length row.values }
     ensures ok { IfOk result (λ s. limited (record { repeats = repeats; period = period; rows = rows; columns = columns }) ≡ Some s) }

@@ -6,6 +6,7 @@ use crate::read_stimulus;
 use circuit::Circuit;
 use flat_design::elaborate;
 use flat_text::{FlatFault, read_module};
+use sim_base::Time;
 use std::alloc::{AllocError, Global};
 use std::test::Fail;
 
@@ -75,6 +76,55 @@ fn samples_are_rows_of_the_repeated_block(rt: HostRuntime) -> Result<(), Fail> {
         let text = text_of(alloc, lines)?;
         let got = sample(alloc, &circuit, &text, k)?;
         assert!(rt; got == want, "sample {k} of {lines}");
+    }
+    Ok(())
+}
+
+/// How many samples of the stimulus are at or before a time.
+fn count_until(
+    alloc: Global,
+    circuit: &Circuit,
+    text: &str,
+    time: &str,
+) -> Result<Option<u64>, FlatFault>
+    requires { IsFlat circuit.now }
+{
+    let stimulus = read_stimulus(alloc, text.as_bytes(), circuit)?;
+    Ok(Time::read(time.as_bytes()).map(|time| stimulus.count_until(time)))
+}
+
+#[test]
+fn samples_are_counted_up_to_a_time(rt: HostRuntime) -> Result<(), Fail> {
+    let alloc = rt.alloc();
+    let circuit = circuit(alloc)?;
+    let two = "block 2 0.5\n0.0 0 0\n0.25 1 f\nend\n";
+    let halves = "block 3 1.0\n0.5 0 0\nend\n";
+    let late = "block 1 4294967295.999999999999999\n4294967295.999999999999998 0 0\nend\n";
+    let most = "block 16777216 0.000000000000001\n0.0 1 0\nend\n";
+    let rows: [(&str, &str, u64); 18] = [
+        (two, "0.0", 1),
+        (two, "0.249999999999999", 1),
+        (two, "0.25", 2),
+        (two, "0.499999999999999", 2),
+        (two, "0.5", 3),
+        (two, "0.75", 4),
+        (two, "1.0", 4),
+        (two, "4294967295.999999999999999", 4),
+        (halves, "0.499999999999999", 0),
+        (halves, "0.5", 1),
+        (halves, "1.499999999999999", 1),
+        (halves, "2.5", 3),
+        (halves, "3.5", 3),
+        (late, "4294967295.999999999999997", 0),
+        (late, "4294967295.999999999999998", 1),
+        (most, "0.0", 1),
+        (most, "0.000000000000099", 100),
+        (most, "1.0", 16_777_216),
+    ];
+    for (lines, time, want) in rows {
+        let text = text_of(alloc, lines)?;
+        let got = count_until(alloc, &circuit, &text, time)?;
+        assert!(rt; got == Some(want), "until {time}: {lines}");
     }
     Ok(())
 }

@@ -1,0 +1,8 @@
+-- How many samples there are until a time.
+use Rattle.std.specs.Prelude.{ℕ, zero, suc, ◌+◌, nat_le, if◌then◌else◌}
+use Rattle.circuit.specs.Run.{Row}
+
+-- of the first so many rows, those at or before a time
+unfoldable pub samples_until : (ℕ → Row) → ℕ → ℕ → ℕ
+samples_until row zero time = 0
+samples_until row (suc k) time = samples_until row k time + (if nat_le (row k).time time then 1 else 0)
