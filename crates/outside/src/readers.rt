@@ -1,7 +1,7 @@
 //! The standard input as a source.
 ghost use Rattle.std.specs.Prelude.{◌≡◌, ◌<◌, length, false, None, IsTrue};
 ghost use Rattle.std.specs.Io.{ReadsAtMost};
-ghost use Rattle.std.specs.Io.KnownBytes.{ReadConsumes};
+ghost use Rattle.std.specs.Io.KnownBytes.{IsAtEnd, ReadConsumes};
 ghost use Rattle.outside.specs.Reader.{Hands, faults_of, is_ended, reader_of};
 ghost use Rattle.outside.specs.Source.{Gives, IsGot, SourceCause};
 
@@ -49,6 +49,7 @@ impl<R: Read> Source for Reader<R> {
         ensures cause { SourceCause (faults_of self.old) (faults_of self.new) result }
         ensures handed { Hands (R.remaining (reader_of self.old)) (R.remaining (reader_of self.new)) result buf.new }
         ensures ended { IsTrue (is_ended self.old) → result ≡ Got.End }
+        ensures all { is_ended self.old ≡ false → result ≡ Got.End → IsAtEnd (R.remaining (reader_of self.new)) }
         ensures stays { result ≡ Got.End → IsTrue (is_ended self.new) }
     {
         if self.ended {
