@@ -15,6 +15,7 @@ mod store;
 #[cfg(test)]
 mod tests;
 mod validity;
+mod values;
 mod worked;
 
 pub use cell::{Cell, Op};
@@ -26,4 +27,5 @@ pub use memory::{Mem, ReadPort, WritePort};
 pub use netlist::{By, Circuit, Drive, Net, Piece, Sig};
 pub use register::{Polarity, Reg, RegKind};
 pub use store::Store;
+pub use values::Values;
 pub use worked::{worked_arithmetic, worked_registers, worked_runs, worked_selections};

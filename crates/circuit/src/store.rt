@@ -7,19 +7,19 @@ use crate::cell::Cell;
 use crate::memory::{Mem, ReadPort};
 use crate::netlist::{Circuit, Net};
 use crate::register::Reg;
+use crate::values::Values;
 use sim_base::{Bits, NoMemory};
-use sqlite_items::Items;
 use std::alloc::Global;
 
 /// The value of each part of a circuit, in the circuit's order.
 #[derive(Debug, Drop)]
 pub struct Store {
-    pub nets: Items<Bits>,
+    pub nets: Values<Bits>,
     /// The outputs of the combinational cells.
-    pub cells: Items<Bits>,
-    pub regs: Items<Bits>,
+    pub cells: Values<Bits>,
+    pub regs: Values<Bits>,
     /// For each memory the value of each of its read ports.
-    pub reads: Items<Items<Bits>>,
+    pub reads: Values<Values<Bits>>,
 }
 
 impl Store {
@@ -36,30 +36,30 @@ impl Store {
     }
 }
 
-fn start_nets(alloc: Global, nets: &[Net]) -> Result<Items<Bits>, NoMemory>
+fn start_nets(alloc: Global, nets: &[Net]) -> Result<Values<Bits>, NoMemory>
     ensures { IfOk result (λ values. values ≡ map (λ n. zeros n.width) nets.now) }
 {
-    let mut values = Items::new(alloc);
+    let mut values = Values::new(alloc);
     for net in nets {
         values.push(Bits::zero(alloc, net.width)?)?;
     }
     Ok(values)
 }
 
-fn start_cells(alloc: Global, cells: &[Cell]) -> Result<Items<Bits>, NoMemory>
+fn start_cells(alloc: Global, cells: &[Cell]) -> Result<Values<Bits>, NoMemory>
     ensures { IfOk result (λ values. values ≡ map (λ x. zeros x.width) cells.now) }
 {
-    let mut values = Items::new(alloc);
+    let mut values = Values::new(alloc);
     for cell in cells {
         values.push(Bits::zero(alloc, cell.width)?)?;
     }
     Ok(values)
 }
 
-fn start_regs(alloc: Global, regs: &[Reg]) -> Result<Items<Bits>, NoMemory>
+fn start_regs(alloc: Global, regs: &[Reg]) -> Result<Values<Bits>, NoMemory>
     ensures { IfOk result (λ values. values ≡ map (λ r. r.init) regs.now) }
 {
-    let mut values = Items::new(alloc);
+    let mut values = Values::new(alloc);
     for reg in regs {
         values.push(reg.init.try_clone(alloc)?)?;
     }
@@ -76,20 +76,20 @@ fn start_read(alloc: Global, mem: &Mem, port: &ReadPort) -> Result<Bits, NoMemor
     }
 }
 
-fn start_reads(alloc: Global, mem: &Mem) -> Result<Items<Bits>, NoMemory>
+fn start_reads(alloc: Global, mem: &Mem) -> Result<Values<Bits>, NoMemory>
     ensures { IfOk result (λ values. values ≡ map (start_read mem.now) mem.now.reads) }
 {
-    let mut values = Items::new(alloc);
+    let mut values = Values::new(alloc);
     for port in mem.reads.as_slice() {
         values.push(start_read(alloc, mem, port)?)?;
     }
     Ok(values)
 }
 
-fn start_mems(alloc: Global, mems: &[Mem]) -> Result<Items<Items<Bits>>, NoMemory>
+fn start_mems(alloc: Global, mems: &[Mem]) -> Result<Values<Values<Bits>>, NoMemory>
     ensures { IfOk result (λ values. values ≡ map (λ m. map (start_read m) m.reads) mems.now) }
 {
-    let mut values = Items::new(alloc);
+    let mut values = Values::new(alloc);
     for mem in mems {
         values.push(start_reads(alloc, mem)?)?;
     }

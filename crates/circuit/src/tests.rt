@@ -49,7 +49,7 @@ fn check_store(rt: &impl Abort, alloc: Global, store: &Store) -> Result<(), Fail
         regs.as_slice()
     );
     assert_eq!(rt; store.reads.len(), 1);
-    let reads = store.reads.get(0).ok_or("no memory")?;
+    let reads = &store.reads.as_slice()[0];
     let kept_and_shown = [(16, 0xA55A), (16, 0)];
     assert_eq!(rt;
         numbers(alloc, reads.as_slice())?.as_slice(),
