@@ -1,0 +1,4 @@
+pub mod Numbers
+pub mod Signals
+pub mod Fitting
+pub mod Steps

@@ -1,0 +1,11 @@
+//! What signals hold, read from the values of nets: at most 64 bits at a time.
+#![tactic(auto)]
+
+mod laws;
+mod piece;
+mod reader;
+mod signal;
+
+pub use laws::{law_of_start, law_of_stores};
+pub use reader::SigReader;
+pub use signal::{sig_bit, sig_field, sig_width, sig_word};

@@ -1,0 +1,56 @@
+//! One piece of a signal.
+ghost use Rattle.std.specs.Prelude.{◌≡◌, ℕ, List, ◌+◌, ◌/◌, ◌%◌, ◌^◌, ◌<◌, ◌≤◌};
+ghost use Rattle.sim_base.specs.BitValue.{BitValue};
+ghost use Rattle.circuit.specs.Signal.{piece_number, piece_width};
+ghost use Rattle.signal_words.specs.Values.{digits_in, IsInside};
+
+use circuit::Piece;
+use sim_base::Bits;
+
+/// How many bits a piece has.
+#[inline]
+pub fn piece_width(piece: &Piece) -> u32
+    ensures value { result ≡ piece_width piece.now }
+    ensures fits { piece_width piece.now < 2 ^ 32 }
+    ensures below { (values : List BitValue) → piece_number (digits_in values) piece.now < 2 ^ piece_width piece.now }
+{
+    match piece {
+        Piece::Const(value) => value.width(),
+        Piece::Part { width, .. } => *width,
+    }
+}
+
+/// The number of `n` bits of a piece from its bit `at` on.
+#[inline]
+pub fn piece_field(piece: &Piece, nets: &[Bits], at: u32, n: u32) -> u64
+    requires inside { IsInside nets.now piece.now }
+    requires small { n ≤ 64 }
+    requires within { at + n ≤ piece_width piece.now }
+    ensures { result ≡ piece_number (digits_in nets.now) piece.now / 2 ^ at % 2 ^ n }
+{
+    match piece {
+        Piece::Const(value) => value.field(at, n),
+        Piece::Part { net, at: first, .. } => {
+            let value = &nets[*net as usize];
+            let _ = value.width();
+            value.field(*first + at, n)
+        }
+    }
+}
+
+/// The number of a piece.
+#[inline]
+pub fn piece_word(piece: &Piece, nets: &[Bits]) -> u64
+    requires inside { IsInside nets.now piece.now }
+    requires small { piece_width piece.now ≤ 64 }
+    ensures value { result ≡ piece_number (digits_in nets.now) piece.now }
+    ensures below { result < 2 ^ piece_width piece.now }
+{
+    match piece {
+        Piece::Const(value) => {
+            let width = value.width();
+            value.field(0, width)
+        }
+        Piece::Part { net, at, width } => nets[*net as usize].field(*at, *width),
+    }
+}

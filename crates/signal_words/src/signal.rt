@@ -1,0 +1,67 @@
+//! Signals in words.
+ghost use Rattle.std.specs.Prelude.{◌≡◌, ℕ, List, ◌+◌, ◌/◌, ◌%◌, ◌^◌, ◌<◌, ◌≤◌};
+ghost use Rattle.std.specs.Int.{bit_at};
+ghost use Rattle.sim_base.specs.BitValue.{BitValue, digit_of};
+ghost use Rattle.circuit.specs.Signal.{sig_number, sig_width};
+ghost use Rattle.signal_words.specs.Values.{digits_in, AreInside};
+
+use crate::piece::{piece_width, piece_word};
+use crate::reader::SigReader;
+use circuit::Piece;
+use sim_base::Bits;
+
+/// The width of a signal in bits. What the nets hold, the number of the signal is below 2 to it.
+#[inline]
+pub fn sig_width(sig: &[Piece]) -> u32
+    requires { sig_width sig.now < 2 ^ 32 }
+    ensures value { result ≡ sig_width sig.now }
+    ensures below { (values : List BitValue) → sig_number (digits_in values) sig.now < 2 ^ sig_width sig.now }
+{
+    let mut width = 0u32;
+    for piece in sig {
+        width += piece_width(piece);
+    }
+    width
+}
+
+/// The number of a signal of at most 64 bits.
+#[inline]
+pub fn sig_word(sig: &[Piece], nets: &[Bits]) -> u64
+    requires inside { AreInside nets.now sig.now }
+    requires small { sig_width sig.now ≤ 64 }
+    ensures value { result ≡ sig_number (digits_in nets.now) sig.now }
+    ensures below { result < 2 ^ sig_width sig.now }
+{
+    let mut word = 0u64;
+    let mut offset = 0u32;
+    for piece in sig {
+        let width = piece_width(piece);
+        let part = piece_word(piece, nets);
+        if width > 0 {
+            word += part << offset;
+        }
+        offset += width;
+    }
+    word
+}
+
+/// The number of `n` bits, at most 64, of a signal from its bit `at` on.
+pub fn sig_field(sig: &[Piece], nets: &[Bits], at: u32, n: u32) -> u64
+    requires inside { AreInside nets.now sig.now }
+    requires fits { sig_width sig.now < 2 ^ 32 }
+    requires small { n ≤ 64 }
+    ensures { result ≡ sig_number (digits_in nets.now) sig.now / 2 ^ at % 2 ^ n }
+{
+    let mut reader = SigReader::new(sig, nets);
+    reader.skip(at);
+    reader.take(n)
+}
+
+/// Whether bit `i` of a signal is 1.
+pub fn sig_bit(sig: &[Piece], nets: &[Bits], i: u32) -> bool
+    requires inside { AreInside nets.now sig.now }
+    requires fits { sig_width sig.now < 2 ^ 32 }
+    ensures { digit_of result ≡ bit_at (sig_number (digits_in nets.now) sig.now) i }
+{
+    sig_field(sig, nets, i, 1) == 1
+}
