@@ -5,6 +5,8 @@ mod laws;
 mod piece;
 mod reader;
 mod signal;
+#[cfg(test)]
+mod tests;
 
 pub use laws::{law_of_start, law_of_stores};
 pub use reader::SigReader;

@@ -1,0 +1,97 @@
+ghost use Rattle.std.specs.Prelude.{◌≡◌, IfOk, ◌≤◌};
+
+use crate::{SigReader, sig_bit, sig_field, sig_width, sig_word};
+use circuit::Piece;
+use sim_base::{Bits, NoMemory};
+use std::alloc::Global;
+use std::test::Fail;
+
+/// A value of this width whose lowest 16 bits, at most, are those of a number.
+fn value(alloc: Global, width: u32, number: u64) -> Result<Bits, NoMemory>
+    requires { width ≤ 65536 }
+    ensures { IfOk result (λ value. value.width ≡ width) }
+{
+    let mut value = Bits::zero(alloc, width)?;
+    value.put_field(0, width.min(64), number);
+    Ok(value)
+}
+
+#[test]
+fn pieces_are_put_together_from_the_least_on(rt: HostRuntime) -> Result<(), Fail> {
+    let alloc = rt.alloc();
+    let nets = [
+        value(alloc, 16, 0xA5C3)?,
+        value(alloc, 64, 0x0123_4567_89AB_CDEF)?,
+    ];
+    let sig = [
+        Piece::Part {
+            net: 0,
+            at: 4,
+            width: 8,
+        },
+        Piece::Const(value(alloc, 4, 0xA)?),
+        Piece::Part {
+            net: 1,
+            at: 60,
+            width: 4,
+        },
+        Piece::Part {
+            net: 1,
+            at: 0,
+            width: 16,
+        },
+    ];
+    assert_eq!(rt; sig_width(&sig), 32);
+    assert_eq!(rt; sig_word(&sig, &nets), 0xCDEF_0A5C);
+    assert_eq!(rt; sig_field(&sig, &nets, 6, 10), 0x29);
+    assert_eq!(rt; sig_field(&sig, &nets, 28, 64), 0xC);
+    assert!(rt; sig_bit(&sig, &nets, 2));
+    assert!(rt; !sig_bit(&sig, &nets, 5));
+    assert!(rt; sig_bit(&sig, &nets, 31));
+    assert!(rt; !sig_bit(&sig, &nets, 32));
+    assert_eq!(rt; sig_width(&[]), 0);
+    assert_eq!(rt; sig_word(&[], &nets), 0);
+    Ok(())
+}
+
+#[test]
+fn a_wide_signal_is_read_from_its_least_bit_on(rt: HostRuntime) -> Result<(), Fail> {
+    let alloc = rt.alloc();
+    let nets = [
+        value(alloc, 100, 0xFFFF_0000_FFFF_0001)?,
+        value(alloc, 0, 0)?,
+        value(alloc, 64, 0x0123_4567_89AB_CDEF)?,
+    ];
+    let sig = [
+        Piece::Part {
+            net: 0,
+            at: 0,
+            width: 100,
+        },
+        Piece::Part {
+            net: 1,
+            at: 0,
+            width: 0,
+        },
+        Piece::Part {
+            net: 2,
+            at: 0,
+            width: 64,
+        },
+    ];
+    assert_eq!(rt; sig_width(&sig), 164);
+    let mut reader = SigReader::new(&sig, &nets);
+    assert_eq!(rt; reader.take(4), 1);
+    assert_eq!(rt; reader.take(0), 0);
+    assert_eq!(rt; reader.take(64), 0x0FFF_F000_0FFF_F000);
+    reader.skip(24);
+    assert_eq!(rt; reader.take(16), 0xEF00);
+    assert_eq!(rt; reader.take(64), 0x0001_2345_6789_ABCD);
+    assert_eq!(rt; reader.take(64), 0);
+    let mut reader = SigReader::new(&sig, &nets);
+    reader.skip(163);
+    assert_eq!(rt; reader.take(64), 0);
+    reader.skip(1000);
+    assert_eq!(rt; reader.take(1), 0);
+    Ok(())
+}
