@@ -10,3 +10,4 @@ mod Slots
 mod Gathered
 mod Still
 mod Widths
+mod Below

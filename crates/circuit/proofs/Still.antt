@@ -37,12 +37,12 @@ no_edge rising now clk = by (is_active rising now clk)
 abbrev resting : Asked → Asked
 resting a = record a { edge = false }
 
-cond_digit : (t : Bool) (x y : ℕ) → x < 2 → y < 2 → cond t x y < 2
-cond_digit true x y lx ly = lx
-cond_digit false x y lx ly = ly
+pub cond_below : (n : ℕ) (t : Bool) (x y : ℕ) → x < n → y < n → cond t x y < n
+cond_below n true x y lx ly = lx
+cond_below n false x y lx ly = ly
 
-bits_digit : (a : Asked) (rest i : ℕ) → cond (a.cleared i) 0 (cond (a.set i) 1 (bit_at rest i)) < 2
-bits_digit a rest i = cond_digit (a.cleared i) 0 (cond (a.set i) 1 (bit_at rest i)) (omega arith) (cond_digit (a.set i) 1 (bit_at rest i) (omega arith) (bit_at-lt rest i))
+pub bits_digit : (a : Asked) (rest i : ℕ) → cond (a.cleared i) 0 (cond (a.set i) 1 (bit_at rest i)) < 2
+bits_digit a rest i = cond_below 2 (a.cleared i) 0 (cond (a.set i) 1 (bit_at rest i)) (omega arith) (cond_below 2 (a.set i) 1 (bit_at rest i) (omega arith) (bit_at-lt rest i))
 
 kept_digit : (c s : Bool) (r o : ℕ) → o ≡ cond c 0 (cond s 1 r) → cond c 0 (cond s 1 o) ≡ cond c 0 (cond s 1 r)
 kept_digit true s r o e = refl
@@ -126,7 +126,7 @@ written_digit before now address i (mark ∷ marks) (p ∷ ports) n e =
     last_digit (written before now address i marks ports) (mark && writes_at before now address i p) (bit_at (sig_number now p.word) i) n
     (λ m is. written_digit before now address i marks ports m is) (bit_at-lt (sig_number now p.word) i) e
 
-row_digit : (before now : Digits) (m : Mem) (marks : List Bool) (address own i : ℕ) → unwrap_or (written before now address i marks m.writes) (bit_at own i) < 2
+pub row_digit : (before now : Digits) (m : Mem) (marks : List Bool) (address own i : ℕ) → unwrap_or (written before now address i marks m.writes) (bit_at own i) < 2
 row_digit before now m marks address own i = by (written before now address i marks m.writes) refl
   where
     by : (o : Option ℕ) → written before now address i marks m.writes ≡ o → unwrap_or o (bit_at own i) < 2

@@ -6,6 +6,7 @@ pub mod Free
 pub mod Next
 pub mod Run
 pub mod Valid
+pub mod Below
 pub mod Slots
 pub mod Store
 pub mod Fault

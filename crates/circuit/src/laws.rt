@@ -8,8 +8,10 @@ ghost use Rattle.circuit.specs.declared.netlist.Circuit.{Circuit};
 ghost use Rattle.circuit.specs.declared.netlist.Net.{Net};
 ghost use Rattle.circuit.specs.State.{State, same_state};
 ghost use Rattle.circuit.specs.Valuation.{IsValuation, valuation, covers, digit_at, given};
-ghost use Rattle.circuit.specs.Run.{Run, Standing, run_length, settled, standing_after, standing_at};
+ghost use Rattle.circuit.specs.Run.{Run, Standing, run_length, settled, standing_after, standing_at, start_state};
 ghost use Rattle.circuit.specs.Free.{IsInOrder};
+ghost use Rattle.circuit.specs.Valid.{is_valid};
+ghost use Rattle.circuit.specs.Below.{AreRowsBelow, AreValuesBelow, IsStateBelow};
 ghost use Rattle.circuit.specs.declared.netlist.Drive.{Drive};
 
 use crate::netlist::Circuit;
@@ -51,4 +53,14 @@ pub fn law_of_reading()
 /// Each net has a value of its width.
 pub fn law_of_widths()
     ensures { (c : Circuit) (state : State) (inputs : List ℕ) (n : ℕ) (x : Net) → slice_get c.nets n ≡ Some x → slice_index (valuation c state inputs) n < 2 ^ x.width }
+{}
+
+/// Registers, rows and read ports keep values of their widths. The rows do so in every circuit; registers
+/// and read ports need the widths of a valid circuit, and values of bits below 2 to their widths, as a
+/// program's are.
+pub fn law_of_keeping()
+    ensures start { (c : Circuit) → is_valid c ≡ true → AreValuesBelow c → IsStateBelow c (start_state c) }
+    ensures next { (c : Circuit) (state : State) (before now : List ℕ) → is_valid c ≡ true → AreValuesBelow c → IsStateBelow c state → IsStateBelow c (next c state before now) }
+    ensures samples { (run : Run) (k : ℕ) (s : Standing) → is_valid run.circuit ≡ true → AreValuesBelow run.circuit → standing_after run k ≡ Some s → IsStateBelow run.circuit s.state }
+    ensures rows { (run : Run) (k : ℕ) (s : Standing) → standing_after run k ≡ Some s → AreRowsBelow run.circuit s.state }
 {}
