@@ -11,3 +11,4 @@ mod Gathered
 mod Still
 mod Widths
 mod Below
+mod Shown

@@ -35,7 +35,7 @@ row_count : (m : Option Mem) → length (row_widths m) ≡ rows_of m
 row_count None = refl
 row_count (Some m) = length-replicate m.size m.width
 
-item_count : (c : Circuit) (k : ItemKind) → length (item_widths c k) ≡ slots_of c k
+pub item_count : (c : Circuit) (k : ItemKind) → length (item_widths c k) ≡ slots_of c k
 item_count c (item.Node net lsb_at input output) = refl
 item_count c (item.Memory m) = row_count _
 

@@ -42,7 +42,7 @@ module _ (c : Circuit) (state : State) (inputs : List ℕ) (digits : Digits) (sm
   driven_small bit None = omega arith
   driven_small bit (Some d) = given_small d.by (bit - d.at)
 
-digit_small : (c : Circuit) (state : State) (inputs : List ℕ) (steps net bit : ℕ) → digit_within c state inputs steps net bit < 2
+pub digit_small : (c : Circuit) (state : State) (inputs : List ℕ) (steps net bit : ℕ) → digit_within c state inputs steps net bit < 2
 unfolding digit_within
 digit_small c state inputs zero net bit = omega arith
 digit_small c state inputs (suc steps) net bit = driven_small c state inputs (digit_within c state inputs steps) (digit_small c state inputs steps) bit (drive_of c net bit)

@@ -8,8 +8,9 @@ ghost use Rattle.circuit.specs.declared.netlist.Circuit.{Circuit};
 ghost use Rattle.circuit.specs.declared.netlist.Net.{Net};
 ghost use Rattle.circuit.specs.State.{State, same_state};
 ghost use Rattle.circuit.specs.Valuation.{IsValuation, valuation, covers, digit_at, given};
-ghost use Rattle.circuit.specs.Run.{Run, Standing, run_length, settled, standing_after, standing_at, start_state};
+ghost use Rattle.circuit.specs.Run.{Run, Standing, run_length, settled, shown, standing_after, standing_at, start_state};
 ghost use Rattle.circuit.specs.Free.{IsInOrder};
+ghost use Rattle.circuit.specs.Slots.{slot_widths};
 ghost use Rattle.circuit.specs.Valid.{is_valid};
 ghost use Rattle.circuit.specs.Below.{AreRowsBelow, AreValuesBelow, IsStateBelow};
 ghost use Rattle.circuit.specs.declared.netlist.Drive.{Drive};
@@ -63,4 +64,9 @@ pub fn law_of_keeping()
     ensures next { (c : Circuit) (state : State) (before now : List ℕ) → is_valid c ≡ true → AreValuesBelow c → IsStateBelow c state → IsStateBelow c (next c state before now) }
     ensures samples { (run : Run) (k : ℕ) (s : Standing) → is_valid run.circuit ≡ true → AreValuesBelow run.circuit → standing_after run k ≡ Some s → IsStateBelow run.circuit s.state }
     ensures rows { (run : Run) (k : ℕ) (s : Standing) → standing_after run k ≡ Some s → AreRowsBelow run.circuit s.state }
+{}
+
+/// A slot shows a value of its width, at each sample; what is no slot of the circuit shows 0.
+pub fn law_of_showing()
+    ensures { (run : Run) (k slot : ℕ) → shown run k slot < 2 ^ slice_index (slot_widths run.circuit) slot }
 {}
