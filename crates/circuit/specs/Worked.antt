@@ -3,7 +3,7 @@ use Rattle.std.specs.Prelude.{ℕ, List, [], ◌∷◌, map, Bool, true, false, 
 use Rattle.sim_base.specs.BitValue.{BitValue, bit_value}
 use Rattle.circuit.specs.Output.{modulo, formula}
 use Rattle.circuit.specs.Next.{Asked}
-use Rattle.circuit.specs.Run.{Run, shown}
+use Rattle.circuit.specs.Run.{Run, rounds_at, shown}
 use Rattle.circuit.specs.declared.netlist.Circuit.{Circuit}
 use Rattle.circuit.specs.declared.netlist.Net.{Net}
 use Rattle.circuit.specs.declared.netlist.Drive.{Drive}
@@ -100,6 +100,10 @@ run_of c count rows = record { circuit = c; count = count; row = λ k. record { 
 -- what a slot shows at the first samples
 abbrev pub traced : Run → List ℕ → ℕ → List ℕ
 traced run samples slot = map (λ k. shown run k slot) samples
+
+-- the numbers of the nets in each round of a sample
+abbrev pub nets_in_rounds : Run → ℕ → List (List ℕ)
+nets_in_rounds run k = map (λ r. r.now) (rounds_at run k)
 
 -- a register that takes 1, whose clock (net 0) is 1 from the first sample on; its value is net 1
 abbrev pub already_high : Run

@@ -31,4 +31,6 @@ pub use netlist::{By, Circuit, Drive, Net, Piece, Sig};
 pub use register::{Polarity, Reg, RegKind};
 pub use store::Store;
 pub use values::Values;
-pub use worked::{worked_arithmetic, worked_registers, worked_runs, worked_selections};
+pub use worked::{
+    worked_arithmetic, worked_registers, worked_rounds, worked_runs, worked_selections,
+};

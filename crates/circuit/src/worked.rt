@@ -1,9 +1,9 @@
 //! Rows of the cell library, worked by hand: what the definitions give for them.
-ghost use Rattle.std.specs.Prelude.{◌≡◌, [], ◌∷◌, ◌-◌, ◌*◌, ◌^◌, true, false};
+ghost use Rattle.std.specs.Prelude.{◌≡◌, [], ◌∷◌, ◌-◌, ◌*◌, ◌^◌, true, false, length};
 ghost use Rattle.sim_base.specs.BitValue.{bit_value};
 ghost use Rattle.circuit.specs.Next.{next_by};
-ghost use Rattle.circuit.specs.Run.{run_length};
-ghost use Rattle.circuit.specs.Worked.{binary, unary, selected, traced, already_high, chained, derived_clock, restless, read_and_written, written_twice, at_edge};
+ghost use Rattle.circuit.specs.Run.{rounds_at, run_length};
+ghost use Rattle.circuit.specs.Worked.{binary, unary, selected, traced, nets_in_rounds, already_high, chained, derived_clock, restless, read_and_written, written_twice, at_edge};
 ghost use Rattle.circuit.specs.declared.cell.Op.TheVariants as op;
 ghost use Rattle.circuit.specs.declared.register.RegKind.TheVariants as kind;
 
@@ -54,4 +54,12 @@ pub fn worked_runs()
     ensures transparent { traced read_and_written (1 ∷ 3 ∷ []) 1 ≡ 0xA5 ∷ 0xA5 ∷ [] }
     ensures old_row { traced read_and_written (1 ∷ 3 ∷ []) 2 ≡ 0 ∷ 0xA5 ∷ [] }
     ensures highest_port { traced written_twice (0 ∷ 1 ∷ []) 1 ≡ 0xAB ∷ 0 ∷ [] }
+{}
+
+/// The rounds of one sample. Behind a clock that a register gives, a register changes one round after it,
+/// and in the last round nothing changes; a latch that takes its own inverse changes in all 256.
+pub fn worked_rounds()
+    ensures derived { nets_in_rounds derived_clock 1 ≡ (1 ∷ 0 ∷ 0 ∷ 0 ∷ 1 ∷ []) ∷ (1 ∷ 1 ∷ 1 ∷ 0 ∷ 0 ∷ []) ∷ (1 ∷ 1 ∷ 1 ∷ 1 ∷ 0 ∷ []) ∷ [] }
+    ensures disabled { nets_in_rounds restless 0 ≡ (0 ∷ 0 ∷ 1 ∷ []) ∷ [] }
+    ensures enabled { length (rounds_at restless 1) ≡ 256 }
 {}
