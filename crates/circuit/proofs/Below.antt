@@ -155,7 +155,7 @@ first_reads width (p ∷ ports) below zero = below 0 p refl
 first_reads width (p ∷ ports) below (suc n) = first_reads width ports (λ k. below (suc k)) n
 
 -- a memory of the next state is what follows on its own
-mems_at : (before now : Digits) (ms : List Mem) (ks : List Stored) (n : ℕ) (m : Mem) (kept : Stored) → slice_get ms n ≡ Some m → slice_get (next_mems before now ms ks) n ≡ Some kept
+pub mems_at : (before now : Digits) (ms : List Mem) (ks : List Stored) (n : ℕ) (m : Mem) (kept : Stored) → slice_get ms n ≡ Some m → slice_get (next_mems before now ms ks) n ≡ Some kept
     → (k : Stored) × (slice_get ks n ≡ Some k) × (next_stored before now m k ≡ kept)
 unfolding next_mems
 mems_at before now [] ks n m kept is next = cc is
@@ -164,7 +164,7 @@ mems_at before now (y ∷ ms) (k ∷ ks) zero m kept is next =
     (k, refl, ap (λ (x : Mem). next_stored before now x k) (sym (same_Some y m is)) ∙ same_Some (next_stored before now y k) kept next)
 mems_at before now (y ∷ ms) (k ∷ ks) (suc n) m kept is next = mems_at before now ms ks n m kept is next
 
-first_mems : (ms : List Mem) (n : ℕ) (m : Mem) (kept : Stored) → slice_get ms n ≡ Some m → slice_get (map start_stored ms) n ≡ Some kept → start_stored m ≡ kept
+pub first_mems : (ms : List Mem) (n : ℕ) (m : Mem) (kept : Stored) → slice_get ms n ≡ Some m → slice_get (map start_stored ms) n ≡ Some kept → start_stored m ≡ kept
 first_mems ms n m kept is first =
     same_Some (start_stored m) kept (sym (slice_get-map start_stored ms n ∙ ap (option_map start_stored) is) ∙ first)
 
@@ -251,7 +251,7 @@ module _ (c : Circuit) (P : State → Type 0) (later : (s : State) (before now :
 
 -- what is true of the start and what a round keeps is true after each sample
 module _ (run : Run) (P : State → Type 0) (first : P (start_state run.circuit)) (later : (s : State) (before now : List ℕ) → P s → P (next run.circuit s before now)) where
-  samples_keep : (k : ℕ) (s : Standing) → standing_after run k ≡ Some s → P s.state
+  pub samples_keep : (k : ℕ) (s : Standing) → standing_after run k ≡ Some s → P s.state
   unfolding standing_after
   samples_keep zero s is = subst (λ (x : Standing). P x.state) (same_Some _ s is) first
   samples_keep (suc k) s is =

@@ -11,4 +11,5 @@ mod Gathered
 mod Still
 mod Widths
 mod Below
+mod StateOf
 mod Shown

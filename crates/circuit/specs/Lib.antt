@@ -7,6 +7,7 @@ pub mod Next
 pub mod Run
 pub mod Valid
 pub mod Below
+pub mod StateOf
 pub mod Slots
 pub mod Store
 pub mod Fault

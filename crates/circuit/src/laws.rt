@@ -1,5 +1,5 @@
 //! Laws of the meaning of circuits.
-ghost use Rattle.std.specs.Prelude.{◌≡◌, ◌≤◌, ◌<◌, ℕ, ◌-◌, List, true, Some, None, is_some, slice_get, slice_index, ◌^◌};
+ghost use Rattle.std.specs.Prelude.{◌≡◌, ◌≤◌, ◌<◌, ℕ, ◌-◌, List, true, Some, None, is_some, length, slice_get, slice_index, ◌^◌};
 ghost use Rattle.circuit.specs.Signal.{Digits};
 ghost use Rattle.circuit.specs.Output.{ReadsBit, output};
 ghost use Rattle.circuit.specs.Next.{next};
@@ -12,6 +12,7 @@ ghost use Rattle.circuit.specs.Run.{Run, Standing, run_length, settled, shown, s
 ghost use Rattle.circuit.specs.Free.{IsInOrder};
 ghost use Rattle.circuit.specs.Slots.{slot_widths};
 ghost use Rattle.circuit.specs.Valid.{is_valid};
+ghost use Rattle.circuit.specs.StateOf.{IsStateOf};
 ghost use Rattle.circuit.specs.Below.{AreRowsBelow, AreValuesBelow, IsStateBelow};
 ghost use Rattle.circuit.specs.declared.netlist.Drive.{Drive};
 
@@ -54,6 +55,15 @@ pub fn law_of_reading()
 /// Each net has a value of its width.
 pub fn law_of_widths()
     ensures { (c : Circuit) (state : State) (inputs : List ℕ) (n : ℕ) (x : Net) → slice_get c.nets n ≡ Some x → slice_index (valuation c state inputs) n < 2 ^ x.width }
+{}
+
+/// After each sample there is a number for each net and register, and for each row and read port of each
+/// memory; a round leaves them as many.
+pub fn law_of_places()
+    ensures start { (c : Circuit) → IsStateOf c (start_state c) }
+    ensures next { (c : Circuit) (state : State) (before now : List ℕ) → IsStateOf c state → IsStateOf c (next c state before now) }
+    ensures samples { (run : Run) (k : ℕ) (s : Standing) → standing_after run k ≡ Some s → IsStateOf run.circuit s.state }
+    ensures nets { (run : Run) (k : ℕ) (s : Standing) → standing_after run k ≡ Some s → length s.nets ≡ length run.circuit.nets }
 {}
 
 /// Registers, rows and read ports keep values of their widths. The rows do so in every circuit; registers
