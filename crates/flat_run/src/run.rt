@@ -1,0 +1,67 @@
+//! A run, of which a contract sees what it means.
+ghost use Rattle.std.specs.Prelude.{◌≡◌, ◌<◌, ◌≤◌, IfOk, min};
+ghost use Rattle.circuit.specs.Run.{run_length};
+ghost use Rattle.flat_design.specs.Flat.{IsFlat};
+ghost use Rattle.flat_run.specs.Run.{AreSamples, run_of};
+
+use crate::progress::Progress;
+use circuit::Circuit;
+use flat_stimulus::FlatStimulus;
+use sim_base::{NoMemory, Time};
+use std::alloc::Global;
+use std::marker::Model;
+
+/// A flat circuit under the samples of a stimulus. A contract sees the two, and `run_of` them.
+#[derive(Drop)]
+pub struct FlatRun {
+    circuit: Circuit,
+    stimulus: FlatStimulus,
+    progress: Progress,
+}
+
+impl Model for FlatRun {
+    ghost use Rattle.flat_run.specs.Progress.{IsProgress};
+    ghost use Rattle.flat_run.specs.Run.{Sampled};
+
+    ghost Value = { Sampled };
+
+    ghost view = { λ r. record { circuit = r.circuit; block = r.stimulus } };
+
+    ghost invariant = { λ r. IsProgress r.circuit r.stimulus r.progress };
+}
+
+impl FlatRun {
+    /// The run of this circuit under these samples.
+    pub fn new(
+        alloc: Global,
+        circuit: Circuit,
+        stimulus: FlatStimulus,
+    ) -> Result<FlatRun, NoMemory>
+        requires flat { IsFlat circuit }
+        requires samples { AreSamples circuit stimulus }
+        ensures { IfOk result (λ run. run ≡ record { circuit = circuit; block = stimulus }) }
+    {
+        let progress = Progress::new(alloc, &circuit, &stimulus)?;
+        Ok(FlatRun {
+            circuit,
+            stimulus,
+            progress,
+        })
+    }
+
+    /// How many samples there are, at least one.
+    pub fn count(&self) -> u64
+        ensures count { result ≡ (run_of self.now).count }
+    {
+        self.stimulus.count()
+    }
+
+    /// How many of the first `want` samples settle. What is known of earlier calls is not computed again.
+    pub fn reach(&mut self, want: u64) -> u64
+        requires { want ≤ (run_of self.old).count }
+        ensures settled { result ≡ min want (run_length (run_of self.old)) }
+        ensures run { self.new ≡ self.old }
+    {
+        self.progress.reach(&self.circuit, &self.stimulus, want)
+    }
+}
