@@ -1,5 +1,5 @@
 //! A run, of which a contract sees what it means.
-ghost use Rattle.std.specs.Prelude.{◌≡◌, ◌<◌, ◌≤◌, IfOk, min};
+ghost use Rattle.std.specs.Prelude.{◌≡◌, ◌<◌, ◌≤◌, [], IfOk, min};
 ghost use Rattle.circuit.specs.Run.{run_length};
 ghost use Rattle.flat_design.specs.Flat.{IsFlat};
 ghost use Rattle.flat_run.specs.Run.{AreSamples, run_of};
@@ -56,12 +56,22 @@ impl FlatRun {
         self.stimulus.count()
     }
 
-    /// How many of the first `want` samples settle. What is known of earlier calls is not computed again.
+    /// How many of the first `want` samples settle. What is known of earlier calls is not computed again. A
+    /// flat circuit has no diagnostics.
     pub fn reach(&mut self, want: u64) -> u64
         requires { want ≤ (run_of self.old).count }
         ensures settled { result ≡ min want (run_length (run_of self.old)) }
         ensures run { self.new ≡ self.old }
+        ensures plain { self.old.circuit.diags ≡ [] }
     {
         self.progress.reach(&self.circuit, &self.stimulus, want)
+    }
+
+    /// The time of sample `k`.
+    pub fn time(&self, k: u64) -> Time
+        requires { k < (run_of self.now).count }
+        ensures { result ≡ ((run_of self.now).row k).time }
+    {
+        self.stimulus.time(k)
     }
 }

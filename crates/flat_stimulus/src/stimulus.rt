@@ -63,9 +63,19 @@ impl FlatStimulus {
         ensures time { result ≡ (row_of self.now k).time }
         ensures inputs { into.new ≡ (row_of self.now k).inputs }
     {
+        let place = (k % self.rows.len() as u64) as usize;
+        let row = &self.rows.as_slice()[place];
+        copy_inputs(row.values.as_slice(), self.columns.as_slice(), into);
+        self.time(k)
+    }
+
+    /// The time of sample `k`.
+    pub fn time(&self, k: u64) -> Time
+        requires { k < sample_count self.now }
+        ensures { result ≡ (row_of self.now k).time }
+    {
         let count = self.rows.len() as u64;
         let row = &self.rows.as_slice()[(k % count) as usize];
-        copy_inputs(row.values.as_slice(), self.columns.as_slice(), into);
         let start = u128::from(k / count) * self.period.femtoseconds();
         Time::of(start + row.offset.femtoseconds()).unwrap()
     }
