@@ -1,0 +1,6 @@
+pub mod Digits
+pub mod Written
+pub mod Counted
+pub mod Modulo
+pub mod Operands
+pub mod Outputs

@@ -1,0 +1,65 @@
+-- What cells give, digit by digit.
+use Rattle.std.proofs.Common.{◌≡◌, ℕ, zero, suc, ◌+◌, ◌-◌, ◌*◌, ◌/◌, ◌%◌, ◌^◌, ◌<◌, ◌≤◌, min, refl, sym, ◌∙◌, ap, subst, arith, rules, Bool, true, false, bit_xor}
+use Rattle.std.proofs.Math.Nat.{add-mod_right, mod-eq_of_lt}
+use Rattle.std.specs.Prelude.{ℤ, pos, negsuc, ◌-ℤ◌}
+use Rattle.std.proofs.lemmas.Nat.{mod_below, pow_pos, pow-add}
+use Rattle.sim_base.specs.BitValue.{BitValue}
+use Rattle.circuit.specs.Signal.{Digits}
+use Rattle.circuit.specs.Output.{modulo, formula, inputs_of, output, left, right, first}
+use Rattle.circuit.specs.declared.cell.Cell.{Cell}
+use Rattle.circuit.specs.declared.cell.Op.{Op}
+use Rattle.circuit.specs.declared.cell.Op.TheVariants as op
+use Rattle.cell_wide.specs.Words.{IsWritten, combined}
+use Rattle.cell_wide.specs.Kinds.{is_bitwise}
+use Rattle.cell_wide.specs.Below.{combined_below}
+use Rattle.cell_wide.specs.declared.words.Bitwise.{Bitwise}
+use Rattle.cell_wide.specs.declared.words.Bitwise.TheVariants as by
+use Rattle.cell_wide.proofs.Modulo.{modulo_below, modulo_difference}
+
+pub output_of : (digits : Digits) (c : Cell) (o : Op) → c.op ≡ o → modulo c.width (formula o (inputs_of digits c)) ≡ output digits c
+output_of digits c o is = ap (λ x. modulo c.width (formula x (inputs_of digits c))) (sym is)
+
+pub same_written : (m n : ℕ) (old new : BitValue) (changed : Bool) → m ≡ n → IsWritten m old new changed → IsWritten n old new changed
+same_written m n old new changed e h = subst (λ k. IsWritten k old new changed) e h
+
+-- the complement of the lowest digits of a whole number
+pub inverse_modulo : (w : ℕ) (z : ℤ) → (2 ^ w - 1) - modulo w z ≡ modulo w (pos 0 -ℤ pos 1 -ℤ z)
+inverse_modulo w z =
+    let below : modulo w z < 2 ^ w = modulo_below w z in
+    let some : 0 < 2 ^ w = pow_pos w in
+    let none : 0 % 2 ^ w ≡ 0 = mod-eq_of_lt some in
+    let s : (2 ^ w - 1) - 0 % 2 ^ w + (2 ^ w - modulo w z) ≡ (2 ^ w - 1) - modulo w z + 2 ^ w = omega (arith, below, none, some) in
+    let lt : (2 ^ w - 1) - modulo w z < 2 ^ w = omega (arith, some) in
+    sym (mod-eq_of_lt lt) ∙ sym (add-mod_right ((2 ^ w - 1) - modulo w z) (2 ^ w)) ∙ ap (λ x. x % 2 ^ w) (sym s)
+    ∙ modulo_difference w (pos 0 -ℤ pos 1) z ((2 ^ w - 1) - 0 % 2 ^ w) (modulo w z) refl refl
+
+-- a combination is already below
+pub combined_modulo : (op : Bitwise) (w : ℕ) (x y : ℤ) → combined op (modulo w x) (modulo w y) % 2 ^ w ≡ combined op (modulo w x) (modulo w y)
+combined_modulo op w x y = mod-eq_of_lt (combined_below op (modulo w x) (modulo w y) w (modulo_below w x) (modulo_below w y))
+
+pub combined_same : (op other : Bitwise) (a b x y : ℕ) → other ≡ op → a ≡ x → b ≡ y → combined other a b ≡ combined op x y
+combined_same op other a b x y e f g = ap (λ o. combined o a b) e ∙ ap (λ z. combined op z b) f ∙ ap (combined op x) g
+
+-- two operands digit by digit
+pub pair_output : (digits : Digits) (c : Cell) (o : Op) (op other : Bitwise) (w x y : ℕ) → c.op ≡ o → other ≡ op → w ≡ c.width → x ≡ modulo w (left (inputs_of digits c)) → y ≡ modulo w (right (inputs_of digits c))
+    → formula o (inputs_of digits c) ≡ pos (combined op (modulo c.width (left (inputs_of digits c))) (modulo c.width (right (inputs_of digits c)))) → combined other x y ≡ output digits c
+pair_output digits c o op other w x y is same width a b f =
+    let l = left (inputs_of digits c) in
+    let r = right (inputs_of digits c) in
+    combined_same op other x y (modulo w l) (modulo w r) same a b ∙ ap (λ k. combined op (modulo k l) (modulo k r)) width ∙ sym (combined_modulo op c.width l r)
+    ∙ sym (ap (modulo c.width) f) ∙ output_of digits c o is
+
+pub xnor_is : (o : Op) → is_bitwise o ≡ true → (o ≡ op.And → ⊥) → (o ≡ op.Or → ⊥) → (o ≡ op.Xor → ⊥) → o ≡ op.Xnor
+xnor_is o e a b d = grind arith
+
+pub xnor_output : (digits : Digits) (c : Cell) (other : Bitwise) (w x y : ℕ) → c.op ≡ op.Xnor → other ≡ by.Xor → w ≡ c.width → x ≡ modulo w (left (inputs_of digits c)) → y ≡ modulo w (right (inputs_of digits c))
+    → (2 ^ w - 1) - combined other x y ≡ output digits c
+xnor_output digits c other w x y is same width a b =
+    let l = left (inputs_of digits c) in
+    let r = right (inputs_of digits c) in
+    ap (λ z. (2 ^ w - 1) - z) (combined_same by.Xor other x y (modulo w l) (modulo w r) same a b) ∙ ap (λ k. (2 ^ k - 1) - combined by.Xor (modulo k l) (modulo k r)) width
+    ∙ ap (λ z. (2 ^ c.width - 1) - z) (sym (combined_modulo by.Xor c.width l r)) ∙ inverse_modulo c.width (pos (combined by.Xor (modulo c.width l) (modulo c.width r))) ∙ output_of digits c op.Xnor is
+
+pub not_output : (digits : Digits) (c : Cell) (w x : ℕ) → c.op ≡ op.Not → w ≡ c.width → x ≡ modulo w (first (inputs_of digits c)) → (2 ^ w - 1) - x ≡ output digits c
+not_output digits c w x is width a =
+    ap (λ z. (2 ^ w - 1) - z) a ∙ ap (λ k. (2 ^ k - 1) - modulo k (first (inputs_of digits c))) width ∙ inverse_modulo c.width (first (inputs_of digits c)) ∙ output_of digits c op.Not is

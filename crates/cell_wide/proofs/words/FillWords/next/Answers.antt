@@ -1,0 +1,8 @@
+use Rattle.std.proofs.Common.{◌≡◌, ◌+◌, ◌-◌, ◌*◌, ◌^◌, sym, ◌∙◌, ap, subst}
+use Rattle.cell_wide.specs.Words.{Passes, low_of_fill}
+use Rattle.cell_wide.proofs.Digits.{fill_passes}
+use Rattle.cell_wide.proofs.words.FillWords.next.Goals as goal
+
+pub returns-then-self-clause-rest : goal.returns-then-self-clause-rest
+returns-then-self-clause-rest c =
+    rw (c.if-self.true, c.ones.ensures) (fill_passes c.args.n)

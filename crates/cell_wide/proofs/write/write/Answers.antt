@@ -1,0 +1,22 @@
+use Rattle.std.proofs.Common.{◌≡◌, ◌≢◌, ◌+◌, ◌-◌, ◌/◌, ◌%◌, ◌<◌, ◌≤◌, ◌^◌, sym, ◌∙◌, ap, subst, arith}
+use Rattle.cell_wide.proofs.Written.{IsWriting, field_same, field_changed, written}
+use Rattle.cell_wide.proofs.write.write.Goals as goal
+use Rattle.cell_wide.proofs.write.write.Goals.{then-field-word, else-field-word}
+
+pub loop-at-preserved : goal.loop-at-preserved
+loop-at-preserved g c =
+    let fits : c.loop-at.at + c.min-n.result ≤ c.width-width.result = omega (arith, c.min-n.ensures, c.loop-at-test.true) in
+    let below = g.met.W.Words.below c.args.words.now c.loop-at.at in
+    let lt = subst (λ x. x < 2 ^ c.min-n.result) (sym c.next-word.ensures.word) (g.met.W.Words.below c.loop-at.words c.min-n.result) in
+    elim c.if-field-word.branch [
+      | then-field-word w ↦
+          rw (w.into-is, w.changed-is) (field_changed (g.W.Words.low c.args.words.now) (g.W.Words.low c.loop-at.words) (g.W.Words.low c.next-word.new.self) c.args.into.now c.loop-at.into c.width-width.result c.loop-at.at c.min-n.result c.next-word.result c.loop-at.changed
+          c.loop-at.invariant below fits c.next-word.ensures.rest c.next-word.ensures.word w.put_field.new.self w.put_field.ensures.width w.put_field.ensures.bits lt (λ is. w.if-field-word.true (c.field.ensures ∙ is)))
+      | else-field-word w ↦
+          rw (w.into-is, w.changed-is) (field_same (g.W.Words.low c.args.words.now) (g.W.Words.low c.loop-at.words) (g.W.Words.low c.next-word.new.self) c.args.into.now c.loop-at.into c.width-width.result c.loop-at.at c.min-n.result c.next-word.result c.loop-at.changed
+          c.loop-at.invariant below fits c.next-word.ensures.rest c.next-word.ensures.word (sym c.field.ensures ∙ w.if-field-word.false))
+    ]
+
+pub returns : goal.returns
+returns g c =
+    written (g.W.Words.low c.args.words.now) (g.W.Words.low c.loop-at.words) c.args.into.now c.loop-at.into c.width-width.result c.loop-at.at c.loop-at.changed c.loop-at.invariant c.width-width.ensures.below c.loop-at-test.false

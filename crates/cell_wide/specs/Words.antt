@@ -1,0 +1,41 @@
+-- Numbers that are given by their digits, the least first, without an end: for each number of digits the number that so
+-- many of the lowest make.
+use Rattle.std.specs.Prelude.{◌≡◌, ℕ, ◌+◌, ◌-◌, ◌*◌, ◌%◌, ◌^◌, min, bit_and, bit_or, bit_xor, ◌==◌, Bool, not, if◌then◌else◌}
+use Rattle.sim_base.specs.BitValue.{BitValue, bit_value}
+use Rattle.cell_wide.specs.declared.words.Bitwise.{Bitwise}
+use Rattle.cell_wide.specs.declared.words.Bitwise.TheVariants as by
+
+-- `result` is the number of the n lowest digits, and `next` has those above
+abbrev pub Passes : (ℕ → ℕ) → ℕ → ℕ → (ℕ → ℕ) → Type 0
+Passes low n result next = (w : ℕ) → low (n + w) ≡ next w * 2 ^ n + result
+
+-- the digits of a number, and then zeros
+abbrev pub low_of_number : ℕ → ℕ → ℕ
+low_of_number number w = number % 2 ^ w
+
+-- ones or zeros
+abbrev pub low_of_fill : Bool → ℕ → ℕ
+low_of_fill ones w = if ones then 2 ^ w - 1 else 0
+
+-- the `left` lowest digits of one below those of another
+abbrev pub low_of_chain : (ℕ → ℕ) → ℕ → (ℕ → ℕ) → ℕ → ℕ
+low_of_chain low left high w = high (w - left) * 2 ^ min w left + low (min w left)
+
+-- each digit the other way round
+abbrev pub low_of_inverse : (ℕ → ℕ) → ℕ → ℕ
+low_of_inverse low w = (2 ^ w - 1) - low w
+
+-- digit by digit
+abbrev pub combined : Bitwise → ℕ → ℕ → ℕ
+combined by.And a b = bit_and a b
+combined by.Or a b = bit_or a b
+combined by.Xor a b = bit_xor a b
+
+-- a value after a number was written into it, and whether that changed it
+pub record IsWritten (number : ℕ) (old new : BitValue) (changed : Bool) : Type 0 where
+  pub value : new ≡ bit_value old.width number
+  pub told : changed ≡ not (old.number == number)
+
+-- the digits of an operand: those of a signal, and behind its last one ones or zeros
+abbrev pub low_of_operand : BitValue → ℕ → Bool → ℕ → ℕ
+low_of_operand signal left ones w = low_of_chain (low_of_number signal.number) left (low_of_fill ones) w
