@@ -68,6 +68,7 @@ lowest_is (suc bits) i n r a b h e = elim (cases_lt i r) [
   where
     not_one : (d : ℕ) → d ≡ 0 → (d == 1) ≡ false
     not_one d e = grind (arith, nat_tests)
+
     is_one : (d : ℕ) → d ≡ 1 → (d == 1) ≡ true
     is_one d e = grind (arith, nat_tests)
 

@@ -77,6 +77,7 @@ module _ (low gone high next : ℕ → ℕ) (left n r s : ℕ) (first : r ≡ lo
     where
       parts : (h a b : ℕ) → (h * a + s) * b + r ≡ h * (b * a) + (s * b + r)
       parts h a b = omega arith
+
       last : (h a : ℕ) → (h * 2 ^ 0 + 0) * a + (s * 2 ^ left + r) ≡ h * a + (s * 2 ^ left + r)
       last h a = omega arith
 

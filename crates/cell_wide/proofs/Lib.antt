@@ -4,3 +4,5 @@ pub mod Counted
 pub mod Modulo
 pub mod Operands
 pub mod Outputs
+pub mod Truths
+pub mod Selections

@@ -28,7 +28,7 @@ zeros_low v width w lt = elim (cases_lt w width) [
     below_power : (v width w : ℕ) → v < 2 ^ width → width ≤ w → v < 2 ^ w
     below_power v width w lt le = let p : 2 ^ width ≤ 2 ^ w = pow-le-pow_right {n = 2} (lit< tt) {i = width} {j = w} le in omega (arith, lt, p)
 
-ones_low : (v width w : ℕ) → v < 2 ^ width → low_of_chain (low_of_number v) width (low_of_fill true) w ≡ modulo w (pos v -ℤ pos (2 ^ width))
+pub ones_low : (v width w : ℕ) → v < 2 ^ width → low_of_chain (low_of_number v) width (low_of_fill true) w ≡ modulo w (pos v -ℤ pos (2 ^ width))
 ones_low v width w lt = elim (cases_lt width w) [
   | inr a ↦
       (let m : min w width ≡ w = omega arith in

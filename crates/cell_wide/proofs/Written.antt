@@ -116,8 +116,8 @@ module _ (low next behind : ℕ → ℕ) (old new : BitValue) (width at n word :
             ∙ ap (λ x. old.number / 2 ^ (at + n) * 2 ^ (at + n) + (word * 2 ^ at + x)) under
             ∙ ap (λ x. old.number / 2 ^ (at + n) * 2 ^ (at + n) + x) (sym (low_more low next behind at n word i.passed q e));
         told = differ (old.number % 2 ^ (at + n)) (low (at + n)) (λ is. other (field_is ∙
-        (same_from_place (old.number / 2 ^ at % 2 ^ n) (old.number % 2 ^ at) word (low at) (2 ^ at) (mod_below old.number (2 ^ at) (pow_pos at)) below
-        (sym old_low ∙ is ∙ low_more low next behind at n word i.passed q e)).0));
+            (same_from_place (old.number / 2 ^ at % 2 ^ n) (old.number % 2 ^ at) word (low at) (2 ^ at) (mod_below old.number (2 ^ at) (pow_pos at)) below
+            (sym old_low ∙ is ∙ low_more low next behind at n word i.passed q e)).0));
       }
     where
       differ : (c d : ℕ) → c ≢ d → true ≡ not (c == d)

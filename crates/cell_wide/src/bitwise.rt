@@ -25,7 +25,7 @@ pub fn unary(cell: &Cell, nets: &[Bits], into: &mut Bits) -> bool
 }
 
 /// The two operands of a cell, which are signed where both flags are set.
-fn operands<'a>(cell: &'a Cell, nets: &'a [Bits], by: Bitwise) -> Pair<Operand<'a>, Operand<'a>>
+pub fn operands<'a>(cell: &'a Cell, nets: &'a [Bits], by: Bitwise) -> Pair<Operand<'a>, Operand<'a>>
     requires a { IsSignalOf nets.now cell.now.a }
     requires b { IsSignalOf nets.now cell.now.b }
     ensures one { (w : ℕ) → low_of_operand result.one.low result.one.left result.one.high.ones w ≡ modulo w (left (inputs_of (digits_in nets.now) cell.now)) }

@@ -1,10 +1,13 @@
 //! The combinational cells that work bit by bit, reduce, compare for equality or select, at any width.
 #![tactic(auto)]
 
-
 mod bitwise;
+mod cell;
 mod count;
 mod operand;
+mod select;
 mod truth;
 mod words;
 mod write;
+
+pub use cell::eval_wide;

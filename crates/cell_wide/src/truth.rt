@@ -6,9 +6,10 @@ ghost use Rattle.signal_words.specs.Values.{digits_in, IsSignalOf};
 ghost use Rattle.cell_wide.specs.Kinds.{IsReady, is_equality, is_logic, is_reduction, is_truth};
 ghost use Rattle.cell_wide.specs.Words.{IsWritten};
 
+use crate::bitwise::operands;
 use crate::count::is_odd;
-use crate::operand::{is_zero, operand};
-use crate::words::{Chain, Fill};
+use crate::operand::is_zero;
+use crate::words::{Bitwise, Chain, Fill, Pair};
 use crate::write::{same, write};
 use circuit::{Cell, Op, Piece};
 use signal_words::{SigReader, sig_width};
@@ -66,15 +67,13 @@ fn are_equal(cell: &Cell, nets: &[Bits]) -> bool
     requires b { IsSignalOf nets.now cell.now.b }
     ensures { result ≡ is_equal (inputs_of (digits_in nets.now) cell.now) }
 {
-    let a = cell.a.as_slice();
-    let b = cell.b.as_slice();
-    let signed = cell.a_signed && cell.b_signed;
-    let width = sig_width(a).max(sig_width(b));
-    same(
-        &mut operand(a, nets, signed),
-        &mut operand(b, nets, signed),
-        width,
-    )
+    let width = sig_width(cell.a.as_slice()).max(sig_width(cell.b.as_slice()));
+    let Pair {
+        mut one,
+        mut other,
+        ..
+    } = operands(cell, nets, Bitwise::Xor);
+    same(&mut one, &mut other, width)
 }
 
 fn equality(cell: &Cell, nets: &[Bits]) -> bool

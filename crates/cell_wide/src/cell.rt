@@ -1,0 +1,45 @@
+//! Cells evaluated over a store.
+ghost use Rattle.std.specs.Prelude.{◌≡◌, ◌+◌, ◌==◌, not, true, slice_set, slice_index_or};
+ghost use Rattle.sim_base.specs.BitValue.{bit_value, zeros};
+ghost use Rattle.circuit.specs.Output.{output};
+ghost use Rattle.signal_words.specs.Values.{digits_in};
+ghost use Rattle.signal_words.specs.Stores.{IsCellOf};
+ghost use Rattle.cell_wide.specs.Kinds.{IsReady, is_wide};
+ghost use Rattle.cell_wide.specs.Words.{IsWritten};
+
+use crate::bitwise::{bitwise, unary};
+use crate::select::selection;
+use crate::truth::truth;
+use circuit::{Cell, Op, Store};
+use sim_base::{Bits, Steps};
+use std::sync::ledger::Ledger;
+
+/// Writes the output of a cell, and tells whether that changed it.
+fn written(cell: &Cell, nets: &[Bits], into: &mut Bits) -> bool
+    requires kind { is_wide cell.now.op ≡ true }
+    requires ready { IsReady nets.now cell.now into.old }
+    ensures { IsWritten (output (digits_in nets.now) cell.now) into.old into.new result }
+{
+    match cell.op {
+        Op::Not | Op::Pos => unary(cell, nets, into),
+        Op::And | Op::Or | Op::Xor | Op::Xnor => bitwise(cell, nets, into),
+        Op::Mux | Op::Pmux | Op::Bmux | Op::Demux => selection(cell, nets, into),
+        Op::Bwmux | Op::Bweqx | Op::Slice | Op::Concat => selection(cell, nets, into),
+        _ => truth(cell, nets, into),
+    }
+}
+
+/// Writes the output of a cell that works bit by bit, reduces, compares for equality or selects to its
+/// place among the outputs of a store, and answers whether that changed it. Takes one step, and no
+/// memory.
+pub fn eval_wide<L: Ledger>(cell: &Cell, store: &mut Store, out: u32, steps: &mut Steps<L>) -> bool
+    requires kind { is_wide cell.now.op ≡ true }
+    requires fits { IsCellOf store.old out cell.now }
+    ensures output { store.new ≡ record store.old { cells = slice_set store.old.cells out (bit_value cell.now.width (output (digits_in store.old.nets) cell.now)) } }
+    ensures changed { result ≡ not ((slice_index_or store.old.cells out (zeros 0)).number == output (digits_in store.old.nets) cell.now) }
+    ensures step { steps.new ≡ steps.old + 1 }
+{
+    steps.tick();
+    let into = store.cells.at(out as usize);
+    written(cell, store.nets.as_slice(), into)
+}

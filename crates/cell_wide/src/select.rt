@@ -1,0 +1,168 @@
+//! Cells that select among the bits of their ports.
+ghost use Rattle.std.specs.Prelude.{◌≡◌, ℕ, ◌*◌, ◌/◌, ◌%◌, ◌^◌, ◌<◌, ◌≤◌, true};
+ghost use Rattle.circuit.specs.Output.{lowest_from, output};
+ghost use Rattle.circuit.specs.Signal.{sig_number, sig_width};
+ghost use Rattle.circuit.specs.declared.cell.Op.TheVariants as op;
+ghost use Rattle.signal_words.specs.Values.{digits_in, IsSignalOf};
+ghost use Rattle.cell_wide.specs.Kinds.{IsReady, is_selection};
+ghost use Rattle.cell_wide.specs.Words.{IsWritten};
+
+use crate::count::lowest;
+use crate::operand::is_zero;
+use crate::words::{Bitwise, Chain, Fill, Inverse, Pair};
+use crate::write::write;
+use circuit::{Cell, Op, Piece};
+use signal_words::{SigReader, sig_width, sig_word};
+use sim_base::Bits;
+
+/// Writes the bits of a signal from its bit `at` on.
+fn copy(sig: &[Piece], nets: &[Bits], at: u32, into: &mut Bits) -> bool
+    requires { IsSignalOf nets.now sig.now }
+    ensures { IsWritten (sig_number (digits_in nets.now) sig.now / 2 ^ at % 2 ^ into.old.width) into.old into.new result }
+{
+    let mut digits = SigReader::new(sig, nets);
+    digits.skip(at);
+    write(&mut digits, into)
+}
+
+/// Where the part begins that `s` selects among parts of this width, all of which have at most 65,536
+/// bits.
+fn selected(width: u32, s: &[Piece], nets: &[Bits]) -> u32
+    requires s { IsSignalOf nets.now s.now }
+    requires most { width * 2 ^ sig_width s.now ≤ 65536 }
+    ensures { 0 < width → result ≡ width * sig_number (digits_in nets.now) s.now }
+{
+    if width == 0 {
+        return 0;
+    }
+    width * sig_word(s, nets) as u32
+}
+
+fn mux(cell: &Cell, nets: &[Bits], into: &mut Bits) -> bool
+    requires kind { cell.now.op ≡ op.Mux }
+    requires ready { IsReady nets.now cell.now into.old }
+    ensures { IsWritten (output (digits_in nets.now) cell.now) into.old into.new result }
+{
+    if sig_word(cell.s.as_slice(), nets) == 1 {
+        copy(cell.b.as_slice(), nets, 0, into)
+    } else {
+        copy(cell.a.as_slice(), nets, 0, into)
+    }
+}
+
+/// The place of the lowest bit of a signal that is 1, and its width where there is none.
+fn lowest_bit(sig: &[Piece], nets: &[Bits]) -> u32
+    requires { IsSignalOf nets.now sig.now }
+    ensures place { result ≡ lowest_from (sig_width sig.now) 0 (sig_number (digits_in nets.now) sig.now) }
+    ensures most { result ≤ sig_width sig.now }
+{
+    let width = sig_width(sig);
+    let mut number = SigReader::new(sig, nets);
+    lowest(&mut number, width)
+}
+
+fn pmux(cell: &Cell, nets: &[Bits], into: &mut Bits) -> bool
+    requires kind { cell.now.op ≡ op.Pmux }
+    requires ready { IsReady nets.now cell.now into.old }
+    ensures { IsWritten (output (digits_in nets.now) cell.now) into.old into.new result }
+{
+    let s = cell.s.as_slice();
+    if is_zero(s, nets) {
+        copy(cell.a.as_slice(), nets, 0, into)
+    } else {
+        let at = cell.width * lowest_bit(s, nets);
+        copy(cell.b.as_slice(), nets, at, into)
+    }
+}
+
+fn bmux(cell: &Cell, nets: &[Bits], into: &mut Bits) -> bool
+    requires kind { cell.now.op ≡ op.Bmux }
+    requires ready { IsReady nets.now cell.now into.old }
+    ensures { IsWritten (output (digits_in nets.now) cell.now) into.old into.new result }
+{
+    let at = selected(cell.width, cell.s.as_slice(), nets);
+    copy(cell.a.as_slice(), nets, at, into)
+}
+
+fn demux(cell: &Cell, nets: &[Bits], into: &mut Bits) -> bool
+    requires kind { cell.now.op ≡ op.Demux }
+    requires ready { IsReady nets.now cell.now into.old }
+    ensures { IsWritten (output (digits_in nets.now) cell.now) into.old into.new result }
+{
+    let a = cell.a.as_slice();
+    let mut digits = Chain {
+        low: Fill { ones: false },
+        left: selected(sig_width(a), cell.s.as_slice(), nets),
+        high: SigReader::new(a, nets),
+    };
+    write(&mut digits, into)
+}
+
+fn bwmux(cell: &Cell, nets: &[Bits], into: &mut Bits) -> bool
+    requires kind { cell.now.op ≡ op.Bwmux }
+    requires ready { IsReady nets.now cell.now into.old }
+    ensures { IsWritten (output (digits_in nets.now) cell.now) into.old into.new result }
+{
+    let a = cell.a.as_slice();
+    let different = Pair {
+        one: SigReader::new(a, nets),
+        other: SigReader::new(cell.b.as_slice(), nets),
+        by: Bitwise::Xor,
+    };
+    let turned = Pair {
+        one: different,
+        other: SigReader::new(cell.s.as_slice(), nets),
+        by: Bitwise::And,
+    };
+    let mut digits = Pair {
+        one: SigReader::new(a, nets),
+        other: turned,
+        by: Bitwise::Xor,
+    };
+    write(&mut digits, into)
+}
+
+fn bweqx(cell: &Cell, nets: &[Bits], into: &mut Bits) -> bool
+    requires kind { cell.now.op ≡ op.Bweqx }
+    requires ready { IsReady nets.now cell.now into.old }
+    ensures { IsWritten (output (digits_in nets.now) cell.now) into.old into.new result }
+{
+    let of = Pair {
+        one: SigReader::new(cell.a.as_slice(), nets),
+        other: SigReader::new(cell.b.as_slice(), nets),
+        by: Bitwise::Xor,
+    };
+    write(&mut Inverse { of }, into)
+}
+
+fn concat(cell: &Cell, nets: &[Bits], into: &mut Bits) -> bool
+    requires kind { cell.now.op ≡ op.Concat }
+    requires ready { IsReady nets.now cell.now into.old }
+    ensures { IsWritten (output (digits_in nets.now) cell.now) into.old into.new result }
+{
+    let a = cell.a.as_slice();
+    let mut digits = Chain {
+        low: SigReader::new(a, nets),
+        left: sig_width(a),
+        high: SigReader::new(cell.b.as_slice(), nets),
+    };
+    write(&mut digits, into)
+}
+
+/// `$mux`, `$pmux`, `$bmux`, `$demux`, `$bwmux`, `$bweqx`, `$slice` and `$concat`.
+pub fn selection(cell: &Cell, nets: &[Bits], into: &mut Bits) -> bool
+    requires kind { is_selection cell.now.op ≡ true }
+    requires ready { IsReady nets.now cell.now into.old }
+    ensures { IsWritten (output (digits_in nets.now) cell.now) into.old into.new result }
+{
+    match cell.op {
+        Op::Mux => mux(cell, nets, into),
+        Op::Pmux => pmux(cell, nets, into),
+        Op::Bmux => bmux(cell, nets, into),
+        Op::Demux => demux(cell, nets, into),
+        Op::Bwmux => bwmux(cell, nets, into),
+        Op::Bweqx => bweqx(cell, nets, into),
+        Op::Slice => copy(cell.a.as_slice(), nets, cell.offset, into),
+        _ => concat(cell, nets, into),
+    }
+}
