@@ -1,0 +1,2 @@
+pub mod Modulo
+mod Wholes

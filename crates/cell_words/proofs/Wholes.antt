@@ -1,0 +1,13 @@
+-- Whole numbers in 128 digits and a sign.
+use Rattle.std.proofs.Common.{◌≡◌, ℕ, ◌+◌, ◌-◌, ◌*◌, ◌/◌, ◌%◌, ◌^◌, ◌<◌, ◌≤◌, Bool, true, false, refl, sym, ◌∙◌, ap, arith, inl, inr}
+use Rattle.std.proofs.lemmas.Int.{ints}
+use Rattle.std.specs.Bool.{beq}
+use Rattle.std.specs.Prelude.{ℤ, pos, negsuc, int_lt}
+use Rattle.cell_words.specs.Wholes.{whole}
+
+-- of two numbers of which one alone is below 0 that one is the lower
+pub lower_is_negative : (p q : Bool) (x y : ℕ) → x < 2 ^ 128 → beq p q ≡ false → y < 2 ^ 128 → p ≡ int_lt (whole p x) (whole q y)
+lower_is_negative true true x y a ne b = absurd (cc)
+lower_is_negative false false x y a ne b = absurd (cc)
+lower_is_negative true false x y a ne b = omega (arith, ints)
+lower_is_negative false true x y a ne b = omega (arith, ints)

@@ -1,0 +1,86 @@
+//! Arithmetic cells and comparisons, by whole numbers.
+ghost use Rattle.std.specs.Prelude.{◌≡◌, ◌≢◌, ◌<◌, ◌≤◌, ◌^◌, ℤ, pos, true};
+ghost use Rattle.sim_base.specs.BitValue.{bit_value};
+ghost use Rattle.circuit.specs.Signal.{Digits, sig_value};
+ghost use Rattle.circuit.specs.Output.{Inputs, modulo, formula, truth, output};
+ghost use Rattle.cell_words.specs.Kinds.{is_division, is_comparison, is_binary, is_arithmetic, HasOperands, ReadsPorts};
+
+use crate::whole::{Whole, low_ones};
+use circuit::{Cell, Op};
+
+/// The value of a port of at most 128 digits.
+#[derive(Clone, Copy, Debug)]
+pub struct Port {
+    pub width: u32,
+    pub number: u128,
+}
+
+fn divided(op: Op, a: &Whole, b: &Whole) -> u128
+    requires { is_division op ≡ true }
+    ensures { (i : Inputs) → HasOperands i a.now b.now → result ≡ modulo 128 (formula op i) }
+{
+    if b.is_zero() {
+        return 0;
+    }
+    match op {
+        Op::Div => a.truncated_quotient(b),
+        Op::Mod => a.truncated_remainder(b),
+        Op::DivFloor => a.floor_quotient(b),
+        _ => a.floor_remainder(b),
+    }
+}
+
+fn compared(op: Op, a: &Whole, b: &Whole) -> bool
+    requires { is_comparison op ≡ true }
+    ensures { (i : Inputs) → HasOperands i a.now b.now → formula op i ≡ truth result }
+{
+    match op {
+        Op::Lt => a.is_below(b),
+        Op::Le => !b.is_below(a),
+        Op::Ge => !a.is_below(b),
+        _ => b.is_below(a),
+    }
+}
+
+fn of_two(op: Op, a: &Whole, b: &Whole) -> u128
+    requires { is_binary op ≡ true }
+    ensures { (i : Inputs) → HasOperands i a.now b.now → result ≡ modulo 128 (formula op i) }
+{
+    match op {
+        Op::Add => a.sum(b),
+        Op::Sub => a.difference(b),
+        Op::Mul => a.product(b),
+        Op::Div | Op::Mod | Op::DivFloor | Op::ModFloor => divided(op, a, b),
+        _ => u128::from(compared(op, a, b)),
+    }
+}
+
+fn low_of(cell: &Cell, a: Port, b: Port) -> u128
+    requires kind { is_arithmetic cell.now.op ≡ true }
+    requires a_narrow { a.width ≤ 128 }
+    requires a_below { a.number < 2 ^ a.width }
+    requires b_narrow { b.width ≤ 128 }
+    requires b_below { b.number < 2 ^ b.width }
+    ensures { (i : Inputs) → ReadsPorts cell.now (bit_value a.width a.number) (bit_value b.width b.number) i → result ≡ modulo 128 (formula cell.now.op i) }
+{
+    if cell.op == Op::Neg {
+        return Whole::operand(cell.a_signed, a.width, a.number).negated();
+    }
+    let signed = cell.a_signed && cell.b_signed;
+    let left = Whole::operand(signed, a.width, a.number);
+    of_two(cell.op, &left, &Whole::operand(signed, b.width, b.number))
+}
+
+/// The number that an arithmetic cell gives for these values of its ports.
+pub fn result_of(cell: &Cell, a: Port, b: Port) -> u128
+    requires kind { is_arithmetic cell.now.op ≡ true }
+    requires narrow { cell.now.width ≤ 128 }
+    requires a_narrow { a.width ≤ 128 }
+    requires a_below { a.number < 2 ^ a.width }
+    requires b_narrow { b.width ≤ 128 }
+    requires b_below { b.number < 2 ^ b.width }
+    ensures { (digits : Digits) → sig_value digits cell.now.a ≡ bit_value a.width a.number → sig_value digits cell.now.b ≡ bit_value b.width b.number
+        → result ≡ output digits cell.now }
+{
+    low_of(cell, a, b) & low_ones(cell.width)
+}

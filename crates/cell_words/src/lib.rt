@@ -1,0 +1,6 @@
+//! The output of a combinational cell that computes with whole numbers or shifts: arithmetic and
+//! comparisons of ports of at most 128 bits, and shifts of any width.
+#![tactic(auto)]
+
+mod arithmetic;
+mod whole;
