@@ -1,2 +1,4 @@
 pub mod Modulo
 mod Wholes
+mod Shifted
+mod Sources

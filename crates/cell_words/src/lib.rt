@@ -3,4 +3,5 @@
 #![tactic(auto)]
 
 mod arithmetic;
+mod shift;
 mod whole;
