@@ -2,3 +2,4 @@ pub mod Modulo
 mod Wholes
 mod Shifted
 mod Sources
+mod Filled

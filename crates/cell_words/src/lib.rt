@@ -5,3 +5,4 @@
 mod arithmetic;
 mod shift;
 mod whole;
+mod write;
