@@ -3,3 +3,4 @@ mod Wholes
 mod Shifted
 mod Sources
 mod Filled
+mod Taken
