@@ -32,7 +32,7 @@ old_part done n from old now bits =
       ∙ sym (bit_at_mod (old / 2 ^ done) n j lt ∙ bit_at_shr old done j))
 
 -- whether lower parts and higher parts are the same
-same_places : (a b c d m : ℕ) → b < m → d < m → (a * m + b == c * m + d) ≡ ((b == d) && (a == c))
+pub same_places : (a b c d m : ℕ) → b < m → d < m → (a * m + b == c * m + d) ≡ ((b == d) && (a == c))
 same_places a b c d m p q = elim (eqb_tells b d) [
   | inl low ↦ (elim (eqb_tells a c) [
     | inl high ↦ eq-eqb (a * m + b) (c * m + d) (let e : a * m ≡ c * m = ap (λ t. t * m) high.1 in omega (arith, low.1)) ∙ rw (low.0, high.0) refl

@@ -4,3 +4,4 @@ mod Shifted
 mod Sources
 mod Filled
 mod Taken
+mod Distances

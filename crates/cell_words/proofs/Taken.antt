@@ -1,7 +1,7 @@
 -- Digits taken from a number's least end.
 use Rattle.std.proofs.Common.{◌≡◌, ℕ, zero, suc, ◌+◌, ◌-◌, ◌*◌, ◌/◌, ◌%◌, ◌^◌, ◌<◌, ◌≤◌, refl, sym, ◌∙◌, ap, arith, inl, inr, subst, min}
 use Rattle.std.proofs.lemmas.Bool.{cases_lt}
-use Rattle.std.proofs.lemmas.Nat.{mod_below, pow_pos, pow-add, shr_high, mod_low, div-add-mod', shl_below}
+use Rattle.std.proofs.lemmas.Nat.{mod_below, pow_pos, pow-add, shr_high, mod_low, div-add-mod', shl_below, shr_below}
 use Rattle.std.proofs.Math.Nat.{mod-eq_of_lt, div-eq_of_lt, mul_assoc, pow-le-pow_right, mod-one, div-one, zero-mul, mul-one}
 use Rattle.sim_base.specs.BitValue.{BitValue, bit_value}
 use Rattle.cell_words.specs.Shifts.{extended}
@@ -98,6 +98,33 @@ taken n o l D own more lt e f =
           ])
     ]
 
+-- the same of a value S of which T is left
+pub rest_inside : (l own : ℕ) (S T : BitValue) → own ≤ l → S.width ≡ l → S.number < 2 ^ l → T ≡ bit_value (S.width - own) (S.number / 2 ^ own) → (T.width ≡ l - own) × (T.number < 2 ^ (l - own))
+rest_inside l own S T le w lt e =
+    let s : l ≡ l - own + own = omega arith in
+    let below : S.number / 2 ^ own < 2 ^ (l - own) = shr_below S.number (l - own) own (subst (λ (k : ℕ). S.number < 2 ^ k) s lt) in
+    (ap (λ (v : BitValue). v.width) e ∙ ap (λ k. k - own) w, subst (λ (x : ℕ). x < 2 ^ (l - own)) (sym (ap (λ (v : BitValue). v.number) e)) below)
+
+pub rest_taken : (n o l own more : ℕ) (S T : BitValue) → S.width ≡ l → S.number < 2 ^ l → own ≡ min n l → more ≡ min (n - own) o → T ≡ bit_value (S.width - own) (S.number / 2 ^ own)
+    → extended (o - more) T ≡ extended o S / 2 ^ n
+rest_taken n o l own more S T w lt e f t =
+    ap (extended (o - more)) (t ∙ ap (λ k. bit_value (k - own) (S.number / 2 ^ own)) w)
+    ∙ sym (taken n o l S.number own more lt e f).1
+    ∙ ap (λ k. extended o (bit_value k S.number) / 2 ^ n) (sym w)
+
+pub word_taken : (n o l own more : ℕ) (S : BitValue) (word : ℕ) → S.width ≡ l → S.number < 2 ^ l → own ≡ min n l → more ≡ min (n - own) o → word ≡ S.number % 2 ^ own
+    → (2 ^ more - 1) * 2 ^ own + word ≡ extended o S % 2 ^ n
+word_taken n o l own more S word w lt e f t =
+    ap (λ x. (2 ^ more - 1) * 2 ^ own + x) t
+    ∙ sym (taken n o l S.number own more lt e f).0
+    ∙ ap (λ k. extended o (bit_value k S.number) % 2 ^ n) (sym w)
+
+pub word_below : (n own word number : ℕ) → word ≡ number % 2 ^ own → word < 2 ^ own
+word_below n own word number e = subst (λ (x : ℕ). x < 2 ^ own) (sym e) (mod_below number (2 ^ own) (pow_pos own))
+
+pub ones_below : (k : ℕ) → 2 ^ k - 1 < 2 ^ k
+ones_below k = let p : 0 < 2 ^ k = pow_pos k in omega arith
+
 -- ---- digits 0 below a number
 
 pub zeros_taken : (n z E below : ℕ) → below ≡ min n z → (E * 2 ^ z % 2 ^ n ≡ E % 2 ^ (n - below) * 2 ^ below) × (E * 2 ^ z / 2 ^ n ≡ E / 2 ^ (n - below) * 2 ^ (z - below))
@@ -123,3 +150,13 @@ zeros_taken n z E below e = elim (cases_lt n z) [
       let r = splits n (E * 2 ^ z) (E / 2 ^ (n - below)) (E % 2 ^ (n - below) * 2 ^ z) (subst P s below_n) m in
       (r.0 ∙ ap (λ k. E % 2 ^ (n - below) * 2 ^ k) (sym x), r.1 ∙ sym (ap (λ k. E / 2 ^ (n - below) * 2 ^ k) y ∙ mul-one (E / 2 ^ (n - below)))))
 ]
+
+-- what is taken behind digits 0 fits a word
+pub word_whole : (n below word E : ℕ) → n ≤ 64 → below ≤ n → word ≡ E % 2 ^ (n - below) → word * 2 ^ below % 2 ^ 64 ≡ E % 2 ^ (n - below) * 2 ^ below
+word_whole n below word E small le e =
+    let s : n - below + below ≡ n = omega arith in
+    let h : E % 2 ^ (n - below) * 2 ^ below < 2 ^ (n - below + below) = shl_below (E % 2 ^ (n - below)) (n - below) below (mod_below E (2 ^ (n - below)) (pow_pos (n - below))) in
+    let g : E % 2 ^ (n - below) * 2 ^ below < 2 ^ n = subst (λ (k : ℕ). E % 2 ^ (n - below) * 2 ^ below < 2 ^ k) s h in
+    let grows : 2 ^ n ≤ 2 ^ 64 = pow-le-pow_right {n = 2} (omega arith) small in
+    let f : E % 2 ^ (n - below) * 2 ^ below < 2 ^ 64 = omega arith in
+    ap (λ x. x * 2 ^ below % 2 ^ 64) e ∙ mod-eq_of_lt f

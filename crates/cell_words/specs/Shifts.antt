@@ -1,5 +1,5 @@
 -- Shifts as moves of a number's digits.
-use Rattle.std.specs.Prelude.{◌≡◌, ℕ, ◌+◌, ◌-◌, ◌*◌, ◌/◌, ◌^◌, ◌<◌, min, ℤ, pos, int_lt, Bool, true, false, ◌&&◌, ◌==◌}
+use Rattle.std.specs.Prelude.{◌≡◌, ℕ, ◌+◌, ◌-◌, ◌*◌, ◌/◌, ◌^◌, ◌<◌, min, ℤ, pos, int_lt, Bool, true, false, ◌&&◌, ◌==◌, if◌then◌else◌}
 use Rattle.std.specs.Int.{bit_at}
 use Rattle.sim_base.specs.BitValue.{BitValue}
 use Rattle.circuit.specs.Output.{Inputs, operand, first, widened, modulo}
@@ -40,9 +40,17 @@ pub record IsAmount (x : Amount) (z : ℤ) : Type 0 where
   pub negative : x.negative ≡ int_lt z (pos 0)
   pub by : x.by ≡ min (magnitude z) farthest
 
+-- whether digits stand for a number below 0
+abbrev pub is_below_zero : Bool → ℕ → ℕ → Bool
+is_below_zero signed width number = signed && (bit_at number (width - 1) == 1)
+
 -- whether the first operand is below 0
 abbrev pub is_negative : Inputs → Bool
-is_negative i = i.a_signed && (bit_at i.a.number (i.a.width - 1) == 1)
+is_negative i = is_below_zero i.a_signed i.a.width i.a.number
+
+-- the number with so many digits that are all 1, or all 0
+abbrev pub all_ones : Bool → ℕ → ℕ
+all_ones ones width = if ones then 2 ^ width - 1 else 0
 
 -- the number whose digits a shift cell moves: the first operand with as many digits as can be seen in the output
 abbrev pub source : Op → Inputs → ℕ

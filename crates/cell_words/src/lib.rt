@@ -2,7 +2,9 @@
 //! comparisons of ports of at most 128 bits, and shifts of any width.
 #![tactic(auto)]
 
+mod amount;
 mod arithmetic;
 mod shift;
+mod source;
 mod whole;
 mod write;
