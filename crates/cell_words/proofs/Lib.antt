@@ -5,3 +5,4 @@ mod Sources
 mod Filled
 mod Taken
 mod Distances
+mod Ports

@@ -4,7 +4,11 @@
 
 mod amount;
 mod arithmetic;
+mod outputs;
 mod shift;
 mod source;
 mod whole;
 mod write;
+
+pub use circuit::Store;
+pub use outputs::eval;
