@@ -58,9 +58,8 @@ rest_fits n left R S le lt e =
     let s : left ≡ left - n + n = omega arith in
     subst (λ (x : ℕ). x < 2 ^ (left - n)) (sym e) (shr_below R (left - n) n (subst (λ (k : ℕ). R < 2 ^ k) s lt))
 
-
 same_out : (a b : ℕ) → (a == b) ≡ true → a ≡ b
-same_out a b h = elim (eqb_tells a b) [ | inl t ↦ t.1 | inr f ↦ absurd (let z : true ≡ false = sym h ∙ f.0 in cc) ]
+same_out a b h = elim (eqb_tells a b) [ inl t ↦ t.1 | inr f ↦ absurd (let z : true ≡ false = sym h ∙ f.0 in cc) ]
 
 differ_out : (a b : ℕ) → (a == b) ≡ false → (a ≡ b → ⊥)
 differ_out a b h e = let z : true ≡ false = sym (eq-eqb a b e) ∙ h in absurd (cc)

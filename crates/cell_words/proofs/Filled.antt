@@ -28,8 +28,8 @@ old_part : (done n from old now : ℕ) → ((j : ℕ) → bit_at now j ≡ digit
 old_part done n from old now bits =
     same_from_bits_below n (now / 2 ^ done % 2 ^ n) (old / 2 ^ done % 2 ^ n) (mod_below (now / 2 ^ done) (2 ^ n) (pow_pos n)) (mod_below (old / 2 ^ done) (2 ^ n) (pow_pos n))
     (λ j lt.
-      bit_at_mod (now / 2 ^ done) n j lt ∙ bit_at_shr now done j ∙ bits (done + j) ∙ copied_above 0 from 0 done old (done + j) (omega arith)
-      ∙ sym (bit_at_mod (old / 2 ^ done) n j lt ∙ bit_at_shr old done j))
+    bit_at_mod (now / 2 ^ done) n j lt ∙ bit_at_shr now done j ∙ bits (done + j) ∙ copied_above 0 from 0 done old (done + j) (omega arith)
+    ∙ sym (bit_at_mod (old / 2 ^ done) n j lt ∙ bit_at_shr old done j))
 
 -- whether lower parts and higher parts are the same
 pub same_places : (a b c d m : ℕ) → b < m → d < m → (a * m + b == c * m + d) ≡ ((b == d) && (a == c))
@@ -69,10 +69,11 @@ filled_more done n from old now new part before changed f e bits c =
     }
 
 pub filled_all : (w from old now : ℕ) (changed : Bool) → Filled w from old now changed → old < 2 ^ w → now < 2 ^ w → (now ≡ from % 2 ^ w) × (changed ≡ not (old == from % 2 ^ w))
-filled_all w from old now changed f lt below =
-    (same_from_bits_below w now (from % 2 ^ w) below (mod_below from (2 ^ w) (pow_pos w))
-        (λ j h. f.bits j ∙ copied_in 0 from 0 w old j (omega arith) (omega arith) ∙ (let z : 0 + (j - 0) ≡ j = omega arith in ap (bit_at from) z) ∙ sym (bit_at_mod from w j h)),
-      f.changed_is ∙ ap (λ x. not (x == from % 2 ^ w)) (mod-eq_of_lt lt))
+filled_all w from old now changed f lt below = (
+  same_from_bits_below w now (from % 2 ^ w) below (mod_below from (2 ^ w) (pow_pos w))
+      (λ j h. f.bits j ∙ copied_in 0 from 0 w old j (omega arith) (omega arith) ∙ (let z : 0 + (j - 0) ≡ j = omega arith in ap (bit_at from) z) ∙ sym (bit_at_mod from w j h)),
+  f.changed_is ∙ ap (λ x. not (x == from % 2 ^ w)) (mod-eq_of_lt lt),
+)
 
 -- ---- at most two words
 
@@ -90,7 +91,7 @@ pub wide_written : (w old mid new number part rest : ℕ) (low high : Bool) → 
 wide_written w old mid new number part rest low high wide lt below fits p r bits c more d =
     let first : Filled 64 number old mid low = filled_more 0 64 number old old mid part false low (filled_none number old) (p ∙ ap (λ t. t % 2 ^ 64) (sym (div-one number))) bits c in
     let second : Filled (64 + (w - 64)) number old new (low || high) =
-        filled_more 64 (w - 64) number old mid new rest low high first (r ∙ sym (mod-eq_of_lt (high_below w number wide lt))) more d in
+    filled_more 64 (w - 64) number old mid new rest low high first (r ∙ sym (mod-eq_of_lt (high_below w number wide lt))) more d in
     let e : 64 + (w - 64) ≡ w = omega arith in
     let P : ℕ → Type 0 = λ k. Filled k number old new (low || high) in
     let all = filled_all w number old new (low || high) (subst P e second) below fits in

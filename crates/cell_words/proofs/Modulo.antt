@@ -43,9 +43,11 @@ is_difference m a b x y le p q = is_sum m a (neg_ℤ b) x (m - y) p (is_negation
 
 pub is_product : (m : ℕ) (a b : ℤ) (x y : ℕ) → Is m a x → Is m b y → Is m (a *ℤ b) (x * y)
 is_product m a b x y (i, j, e) (k, l, f) =
-    let p = product_is a b in
-    (k * up a + l * down a + i * y, l * up a + k * down a + j * y,
-      omega (arith, p.0, p.1, ap (λ t. t * y) e, ap (λ t. up a * t) f, ap (λ t. down a * t) f))
+    let p = product_is a b in (
+      k * up a + l * down a + i * y,
+      l * up a + k * down a + j * y,
+      omega (arith, p.0, p.1, ap (λ t. t * y) e, ap (λ t. up a * t) f, ap (λ t. down a * t) f),
+    )
 
 pub is_rest : (m : ℕ) (a : ℤ) (x : ℕ) → Is m a x → Is m a (x % m)
 is_rest m a x (i, j, e) = (i, j + x / m, omega (arith, div-add-mod' x m))

@@ -35,7 +35,7 @@ left_is_product w S n z is =
 pow_grows : (k n : ℕ) → k ≤ n → 2 ^ k ≤ 2 ^ n
 pow_grows k n le = pow-le-pow_right {n = 2} (omega arith) le
 
-none_right : (k S n : ℕ) → S < 2 ^ k → k ≤ n → S / 2 ^ n ≡ 0
+pub none_right : (k S n : ℕ) → S < 2 ^ k → k ≤ n → S / 2 ^ n ≡ 0
 none_right k S n lt le =
     let wider : 2 ^ k ≤ 2 ^ n = pow_grows k n le in
     let below : S < 2 ^ n = omega arith in
@@ -80,7 +80,7 @@ extended_is ones a lt =
     let some : 0 < 2 ^ ones = pow_pos ones in
     let whole : 2 ^ ones ≡ (2 ^ ones - 1) + 1 = omega arith in
     is_only (ones + a.width) (pos a.number -ℤ pos (2 ^ a.width)) (extended ones a) (extended_below ones a lt)
-        (1, 0, omega (arith, ints, ap (λ t. t * 2 ^ a.width) whole))
+    (1, 0, omega (arith, ints, ap (λ t. t * 2 ^ a.width) whole))
 
 pub extended_not : (e : ℕ) (a : BitValue) → a.number < 2 ^ a.width → a.width ≤ e → extended 0 a ≡ modulo e (pos a.number)
 extended_not e a lt le =

@@ -1,8 +1,11 @@
 -- What shift cells move, and where.
-use Rattle.std.proofs.Common.{◌≡◌, ℕ, zero, suc, ◌+◌, ◌-◌, ◌*◌, ◌/◌, ◌%◌, ◌^◌, ◌<◌, ◌≤◌, refl, sym, ◌∙◌, ap, arith, inl, inr, subst, min, max, Bool, true, false, ◌&&◌, ltb, cond, ◌⊎◌}
+use Rattle.std.proofs.Common.{◌≡◌, ℕ, zero, suc, ◌+◌, ◌-◌, ◌*◌, ◌/◌, ◌%◌, ◌^◌, ◌<◌, ◌≤◌, refl, sym, ◌∙◌, ap, arith, inl, inr, subst, min, max, Bool, true, false, ◌&&◌, ltb, cond, ◌⊎◌, bit_and}
 use Rattle.std.proofs.lemmas.Bool.{cond-true, cond-false, ltb-true}
 use Rattle.std.specs.Prelude.{ℤ, pos, negsuc, ◌+ℤ◌, ◌-ℤ◌, ◌*ℤ◌, neg_ℤ, int_lt, ◌==◌}
 use Rattle.std.specs.Int.{bit_at}
+use Rattle.std.proofs.lemmas.Nat.{and_mask, pow_pos, pow-add}
+use Rattle.std.proofs.Math.Nat.{mod-eq_of_lt, pow-le-pow_right, zero-mul, zero-mod}
+use Rattle.std.proofs.Math.Pow.{mod-mod-pow}
 use borrow.Author.Differences.{up, down}
 use Rattle.std.proofs.lemmas.Int.{ints}
 use Rattle.sim_base.specs.BitValue.{BitValue, bit_value}
@@ -13,7 +16,7 @@ use Rattle.cell_words.specs.Wholes.{magnitude}
 use Rattle.cell_words.specs.Kinds.{is_shift}
 use Rattle.cell_words.specs.Shifts.{extended, farthest, source, places, is_to_the_left, is_negative}
 use Rattle.cell_words.proofs.Modulo.{Is, modulo_is, is_product, is_lower, modulo_of}
-use Rattle.cell_words.proofs.Shifted.{is_itself, extended_is, extended_not, extended_below, moved_left, moved_right, moved_floor}
+use Rattle.cell_words.proofs.Shifted.{none_right, is_itself, extended_is, extended_not, extended_below, moved_left, moved_right, moved_floor}
 
 first_unsigned : (i : Inputs) → is_negative i ≡ false → first i ≡ pos i.a.number
 first_unsigned i h = cond-false (is_negative i) (pos i.a.number -ℤ pos (2 ^ i.a.width)) (pos i.a.number) h
@@ -63,9 +66,9 @@ product_of_first : (i : Inputs) (n by : ℕ) → by ≡ min n farthest → i.wid
 product_of_first i n by e le =
     moved_left i.width (widened i) n by e le
     ∙ modulo_of i.width (first i *ℤ pos (2 ^ n)) (widened i * 2 ^ n)
-        (is_product (2 ^ i.width) (first i) (pos (2 ^ n)) (widened i) (2 ^ n)
-            (is_lower i.width (max i.a.width i.width) (first i) (widened i) (omega arith) (modulo_is (max i.a.width i.width) (first i)))
-            (is_itself (2 ^ i.width) (2 ^ n)))
+    (is_product (2 ^ i.width) (first i) (pos (2 ^ n)) (widened i) (2 ^ n)
+    (is_lower i.width (max i.a.width i.width) (first i) (widened i) (omega arith) (modulo_is (max i.a.width i.width) (first i)))
+    (is_itself (2 ^ i.width) (2 ^ n)))
 
 below_zero : (n : ℕ) → int_lt (pos n) (pos 0) ≡ true → ⊥
 below_zero n h = omega (arith, ints)
@@ -126,7 +129,7 @@ pub left_answer : (o : Op) (i : Inputs) (w ones by left : ℕ) (negative : Bool)
 left_answer o i w ones by left negative k t n e l le we s =
     let P : ℕ → Type 0 = λ v. source o i / 2 ^ 0 * 2 ^ min by v % 2 ^ v ≡ modulo v (formula o i) in
     let r : source o i / 2 ^ 0 * 2 ^ min by i.width % 2 ^ i.width ≡ modulo i.width (formula o i) =
-        left_result o i by k (ap (is_to_the_left o) (sym n) ∙ sym t) e (omega arith) in
+    left_result o i by k (ap (is_to_the_left o) (sym n) ∙ sym t) e (omega arith) in
     ap (λ S. S / 2 ^ 0 * 2 ^ left % 2 ^ w) s ∙ ap (λ j. source o i / 2 ^ 0 * 2 ^ j % 2 ^ w) l ∙ subst P we r
 
 pub floor_answer : (o : Op) (i : Inputs) (w a ones by right : ℕ) → o ≡ op.Sshr → i.a.number < 2 ^ i.a.width
@@ -135,7 +138,7 @@ pub floor_answer : (o : Op) (i : Inputs) (w a ones by right : ℕ) → o ≡ op.
 floor_answer o i w a ones by right oe lt e l le we ae s =
     let P : ℕ → Type 0 = λ v. source op.Sshr i / 2 ^ min by i.a.width * 2 ^ 0 % 2 ^ v ≡ modulo v (formula op.Sshr i) in
     let r : source op.Sshr i / 2 ^ min by i.a.width * 2 ^ 0 % 2 ^ i.width ≡ modulo i.width (formula op.Sshr i) =
-        floor_result i by lt (e ∙ ap (λ p. min (magnitude (places p i)) farthest) oe) (omega arith) in
+    floor_result i by lt (e ∙ ap (λ p. min (magnitude (places p i)) farthest) oe) (omega arith) in
     ap (λ S. S / 2 ^ right * 2 ^ 0 % 2 ^ w) (s ∙ ap (λ p. source p i) oe) ∙ ap (λ j. source op.Sshr i / 2 ^ j * 2 ^ 0 % 2 ^ w) (l ∙ ap (min by) (sym ae))
     ∙ subst P we r ∙ ap (λ p. modulo w (formula p i)) (sym oe)
 
@@ -146,5 +149,30 @@ right_answer o i w a ones by right negative k ne t n lt e l le we ae s =
     let P : ℕ → Type 0 = λ v. source o i / 2 ^ min by (ones + i.a.width) * 2 ^ 0 % 2 ^ v ≡ modulo v (formula o i) in
     let Q : ℕ → Type 0 = λ S. S < 2 ^ (ones + i.a.width) in
     let r : source o i / 2 ^ min by (ones + i.a.width) * 2 ^ 0 % 2 ^ i.width ≡ modulo i.width (formula o i) =
-        right_result o i (ones + i.a.width) by k ne (ap (is_to_the_left o) (sym n) ∙ sym t) e (subst Q s (extended_below ones i.a lt)) (omega arith) in
+    right_result o i (ones + i.a.width) by k ne (ap (is_to_the_left o) (sym n) ∙ sym t) e (subst Q s (extended_below ones i.a lt)) (omega arith) in
     ap (λ S. S / 2 ^ right * 2 ^ 0 % 2 ^ w) s ∙ ap (λ j. source o i / 2 ^ j * 2 ^ 0 % 2 ^ w) (l ∙ ap (λ v. min by (ones + v)) (sym ae)) ∙ subst P we r
+
+-- ---- in one machine word
+
+pub none_moved : (ones right left w : ℕ) (a : BitValue) → a.number < 2 ^ a.width → ones + a.width ≤ right → 0 ≡ extended ones a / 2 ^ right * 2 ^ left % 2 ^ w
+none_moved ones right left w a lt le =
+    sym (ap (λ t. t * 2 ^ left % 2 ^ w) (none_right (ones + a.width) (extended ones a) right (extended_below ones a lt) le) ∙ ap (λ t. t % 2 ^ w) (zero-mul (2 ^ left)) ∙ zero-mod (2 ^ w))
+
+pub word_moved : (ones right left w L R : ℕ) (a : BitValue) → ones + a.width ≤ 128 → w ≤ 128 → L ≡ 2 ^ ones - 1 → R ≡ 2 ^ w - 1
+    → bit_and ((L * 2 ^ a.width % 2 ^ 128 + a.number) / 2 ^ right * 2 ^ left % 2 ^ 128) R ≡ extended ones a / 2 ^ right * 2 ^ left % 2 ^ w
+word_moved ones right left w L R a le narrow l r =
+    let power : 2 ^ (ones + a.width) ≡ 2 ^ ones * 2 ^ a.width = pow-add 2 ones a.width in
+    let grows : 2 ^ (ones + a.width) ≤ 2 ^ 128 = pow-le-pow_right {n = 2} (omega arith) le in
+    let some : 0 < 2 ^ ones = pow_pos ones in
+    let some_own : 0 < 2 ^ a.width = pow_pos a.width in
+    let whole : 2 ^ ones ≡ (2 ^ ones - 1) + 1 = omega arith in
+    let product : 2 ^ ones * 2 ^ a.width ≡ ((2 ^ ones - 1) + 1) * 2 ^ a.width = ap (λ t. t * 2 ^ a.width) whole in
+    let fits : (2 ^ ones - 1) * 2 ^ a.width < 2 ^ 128 = omega arith in
+    let s : 128 - w + w ≡ 128 = omega arith in
+
+    ap (λ t. bit_and ((t * 2 ^ a.width % 2 ^ 128 + a.number) / 2 ^ right * 2 ^ left % 2 ^ 128) R) l
+    ∙ ap (λ t. bit_and ((t + a.number) / 2 ^ right * 2 ^ left % 2 ^ 128) R) (mod-eq_of_lt fits)
+    ∙ ap (bit_and (extended ones a / 2 ^ right * 2 ^ left % 2 ^ 128)) r
+    ∙ and_mask (extended ones a / 2 ^ right * 2 ^ left % 2 ^ 128) w
+    ∙ ap (λ k. extended ones a / 2 ^ right * 2 ^ left % 2 ^ k % 2 ^ w) (sym s)
+    ∙ mod-mod-pow (extended ones a / 2 ^ right * 2 ^ left) (128 - w) w

@@ -20,7 +20,7 @@ own_split n o l D le lt =
     let p : 2 ^ l ≡ 2 ^ (l - n) * 2 ^ n = ap (λ k. 2 ^ k) (sym s) ∙ pow-add 2 (l - n) n in
     let m : (2 ^ o - 1) * 2 ^ l ≡ (2 ^ o - 1) * 2 ^ (l - n) * 2 ^ n = ap (λ t. (2 ^ o - 1) * t) p ∙ sym (mul_assoc (2 ^ o - 1) (2 ^ (l - n)) (2 ^ n)) in
     splits n ((2 ^ o - 1) * 2 ^ l + D) ((2 ^ o - 1) * 2 ^ (l - n) + D / 2 ^ n) (D % 2 ^ n) (mod_below D (2 ^ n) (pow_pos n))
-        (omega (arith, m, div-add-mod' D (2 ^ n)))
+    (omega (arith, m, div-add-mod' D (2 ^ n)))
 
 -- a number below 2 to the k has no more digits
 beyond : (k D : ℕ) → D < 2 ^ k → (D % 2 ^ k ≡ D) × (D / 2 ^ k ≡ 0)
@@ -41,8 +41,8 @@ ones_split j o l D le lt =
     let y : 2 ^ j * 2 ^ l ≡ ((2 ^ j - 1) + 1) * 2 ^ l = ap (λ t. t * 2 ^ l) b in
     let z : 2 ^ (o - j) * 2 ^ (l + j) ≡ ((2 ^ (o - j) - 1) + 1) * 2 ^ (l + j) = ap (λ t. t * 2 ^ (l + j)) d in
     splits (l + j) ((2 ^ o - 1) * 2 ^ l + D) (2 ^ (o - j) - 1) ((2 ^ j - 1) * 2 ^ l + D)
-        (omega (arith, k, y))
-        (omega (arith, k, f, x, y, z))
+    (omega (arith, k, y))
+    (omega (arith, k, f, x, y, z))
 
 -- beyond the digits 1 there are digits 0
 none_split : (n o l D : ℕ) → l + o ≤ n → D < 2 ^ l → (extended o (bit_value l D) % 2 ^ n ≡ extended o (bit_value l D)) × (extended o (bit_value l D) / 2 ^ n ≡ 0)
@@ -68,9 +68,10 @@ reads_ones n o l D le more lt =
     let s : l + (n - l) ≡ n = omega arith in
     let r = ones_split (n - l) o l D more lt in
     let b = beyond l D lt in
-    let z : l - l ≡ 0 = omega arith in
-    (ap (λ k. ((2 ^ o - 1) * 2 ^ l + D) % 2 ^ k) (sym s) ∙ r.0 ∙ ap (λ t. (2 ^ (n - l) - 1) * 2 ^ l + t) (sym b.0),
-      ap (λ k. ((2 ^ o - 1) * 2 ^ l + D) / 2 ^ k) (sym s) ∙ r.1 ∙ sym (ap (λ k. (2 ^ (o - (n - l)) - 1) * 2 ^ k + D / 2 ^ l) z ∙ ap (λ t. (2 ^ (o - (n - l)) - 1) * 2 ^ 0 + t) b.1 ∙ omega arith))
+    let z : l - l ≡ 0 = omega arith in (
+      ap (λ k. ((2 ^ o - 1) * 2 ^ l + D) % 2 ^ k) (sym s) ∙ r.0 ∙ ap (λ t. (2 ^ (n - l) - 1) * 2 ^ l + t) (sym b.0),
+      ap (λ k. ((2 ^ o - 1) * 2 ^ l + D) / 2 ^ k) (sym s) ∙ r.1 ∙ sym (ap (λ k. (2 ^ (o - (n - l)) - 1) * 2 ^ k + D / 2 ^ l) z ∙ ap (λ t. (2 ^ (o - (n - l)) - 1) * 2 ^ 0 + t) b.1 ∙ omega arith),
+    )
 
 reads_all : (n o l D : ℕ) → l ≤ n → o ≤ n - l → D < 2 ^ l → Reads n o l D l o
 unfolding Reads
@@ -78,9 +79,10 @@ reads_all n o l D le more lt =
     let r = none_split n o l D (omega arith) lt in
     let b = beyond l D lt in
     let z : l - l ≡ 0 = omega arith in
-    let y : o - o ≡ 0 = omega arith in
-    (r.0 ∙ ap (λ t. (2 ^ o - 1) * 2 ^ l + t) (sym b.0),
-      r.1 ∙ sym (ap (λ k. (2 ^ k - 1) * 2 ^ (l - l) + D / 2 ^ l) y ∙ ap (λ t. (2 ^ 0 - 1) * 2 ^ (l - l) + t) b.1 ∙ omega arith))
+    let y : o - o ≡ 0 = omega arith in (
+      r.0 ∙ ap (λ t. (2 ^ o - 1) * 2 ^ l + t) (sym b.0),
+      r.1 ∙ sym (ap (λ k. (2 ^ k - 1) * 2 ^ (l - l) + D / 2 ^ l) y ∙ ap (λ t. (2 ^ 0 - 1) * 2 ^ (l - l) + t) b.1 ∙ omega arith),
+    )
 
 pub taken : (n o l D own more : ℕ) → D < 2 ^ l → own ≡ min n l → more ≡ min (n - own) o
     → (extended o (bit_value l D) % 2 ^ n ≡ (2 ^ more - 1) * 2 ^ own + D % 2 ^ own)
@@ -134,9 +136,10 @@ zeros_taken n z E below e = elim (cases_lt n z) [
       let s : z - below + n ≡ z = omega arith in
       let y : n - below ≡ 0 = omega arith in
       let p : 2 ^ z ≡ 2 ^ (z - below) * 2 ^ n = ap (λ k. 2 ^ k) (sym s) ∙ pow-add 2 (z - below) n in
-      let r = splits n (E * 2 ^ z) (E * 2 ^ (z - below)) 0 (pow_pos n) (omega (arith, ap (λ t. E * t) p)) in
-      (r.0 ∙ sym (ap (λ k. E % 2 ^ k * 2 ^ below) y ∙ ap (λ t. t * 2 ^ below) (mod-one E) ∙ zero-mul (2 ^ below)),
-        r.1 ∙ sym (ap (λ k. E / 2 ^ k * 2 ^ (z - below)) y ∙ ap (λ t. t * 2 ^ (z - below)) (div-one E))))
+      let r = splits n (E * 2 ^ z) (E * 2 ^ (z - below)) 0 (pow_pos n) (omega (arith, ap (λ t. E * t) p)) in (
+        r.0 ∙ sym (ap (λ k. E % 2 ^ k * 2 ^ below) y ∙ ap (λ t. t * 2 ^ below) (mod-one E) ∙ zero-mul (2 ^ below)),
+        r.1 ∙ sym (ap (λ k. E / 2 ^ k * 2 ^ (z - below)) y ∙ ap (λ t. t * 2 ^ (z - below)) (div-one E)),
+      ))
   | inr b ↦
       (let x : below ≡ z = omega arith in
       let s : n - below + z ≡ n = omega arith in
@@ -146,7 +149,7 @@ zeros_taken n z E below e = elim (cases_lt n z) [
       let below_n : E % 2 ^ (n - below) * 2 ^ z < 2 ^ (n - below + z) = shl_below (E % 2 ^ (n - below)) (n - below) z h in
       let P : ℕ → Type 0 = λ k. E % 2 ^ (n - below) * 2 ^ z < 2 ^ k in
       let m : E * 2 ^ z ≡ E / 2 ^ (n - below) * 2 ^ n + E % 2 ^ (n - below) * 2 ^ z =
-          omega (arith, ap (λ t. t * 2 ^ z) (div-add-mod' E (2 ^ (n - below))), ap (λ t. E / 2 ^ (n - below) * t) p) in
+      omega (arith, ap (λ t. t * 2 ^ z) (div-add-mod' E (2 ^ (n - below))), ap (λ t. E / 2 ^ (n - below) * t) p) in
       let r = splits n (E * 2 ^ z) (E / 2 ^ (n - below)) (E % 2 ^ (n - below) * 2 ^ z) (subst P s below_n) m in
       (r.0 ∙ ap (λ k. E % 2 ^ (n - below) * 2 ^ k) (sym x), r.1 ∙ sym (ap (λ k. E / 2 ^ (n - below) * 2 ^ k) y ∙ mul-one (E / 2 ^ (n - below)))))
 ]

@@ -8,7 +8,7 @@ ghost use Rattle.cell_words.specs.Shifts.{farthest, all_ones, is_below_zero, IsA
 use crate::shift::Amount;
 use crate::source::ones_word;
 use circuit::Piece;
-use signal_words::{SigReader, sig_bit, sig_width};
+use signal_words::{SigReader, sig_bit, sig_width, sig_word};
 use sim_base::Bits;
 
 /// No shift moves digits by more places: twice the largest width.
@@ -63,8 +63,23 @@ fn distance(sig: &[Piece], nets: &[Bits], ones: bool) -> u32
     flipped(word, n, ones).min(u64::from(FARTHEST)) as u32
 }
 
-/// The number of places that an operand asks for, in two's complement where signed.
-pub fn amount_of(sig: &[Piece], nets: &[Bits], signed: bool) -> Amount
+fn amount_of_word(width: u32, word: u64, signed: bool) -> Amount
+    requires narrow { width ≤ 64 }
+    requires below { word < 2 ^ width }
+    ensures { IsAmount result (operand signed width word) }
+{
+    if signed && width > 0 && (word >> (width - 1)) & 1 == 1 {
+        let below = (ones_word(width) - word).min(u64::from(FARTHEST)) as u32;
+        let by = (below + 1).min(FARTHEST);
+        return Amount { negative: true, by };
+    }
+    Amount {
+        negative: false,
+        by: word.min(u64::from(FARTHEST)) as u32,
+    }
+}
+
+fn amount_of_words(sig: &[Piece], nets: &[Bits], signed: bool) -> Amount
     requires inside { AreInside nets.now sig.now }
     requires fits { sig_width sig.now ≤ 65536 }
     ensures { IsAmount result (operand signed (sig_width sig.now) (sig_number (digits_in nets.now) sig.now)) }
@@ -77,6 +92,20 @@ pub fn amount_of(sig: &[Piece], nets: &[Bits], signed: bool) -> Amount
     Amount {
         negative: false,
         by,
+    }
+}
+
+/// The number of places that an operand asks for, in two's complement where signed.
+pub fn amount_of(sig: &[Piece], nets: &[Bits], signed: bool) -> Amount
+    requires inside { AreInside nets.now sig.now }
+    requires fits { sig_width sig.now ≤ 65536 }
+    ensures { IsAmount result (operand signed (sig_width sig.now) (sig_number (digits_in nets.now) sig.now)) }
+{
+    let width = sig_width(sig);
+    if width <= 64 {
+        amount_of_word(width, sig_word(sig, nets), signed)
+    } else {
+        amount_of_words(sig, nets, signed)
     }
 }
 

@@ -7,6 +7,8 @@ mod arithmetic;
 mod outputs;
 mod shift;
 mod source;
+#[cfg(test)]
+mod tests;
 mod whole;
 mod write;
 

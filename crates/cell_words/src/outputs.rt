@@ -7,11 +7,11 @@ ghost use Rattle.circuit.specs.Valid.{widths_fit, widths_of};
 ghost use Rattle.signal_words.specs.Values.{digits_in, AreInside, IsSignalOf};
 ghost use Rattle.signal_words.specs.Stores.{IsCellOf};
 ghost use Rattle.cell_words.specs.Kinds.{is_arithmetic, is_arithmetic_or_shift, is_shift};
-ghost use Rattle.cell_words.specs.Shifts.{places, IsAmount};
+ghost use Rattle.cell_words.specs.Shifts.{is_below_zero, places};
 
 use crate::amount::{amount_of, is_below_zero};
 use crate::arithmetic::{Port, result_of};
-use crate::shift::{Amount, shift_of};
+use crate::shift::{moved_word, shift_of};
 use crate::source::{Source, fill};
 use crate::write::put_number;
 use circuit::{Cell, Op, Piece, Store};
@@ -55,6 +55,15 @@ fn arithmetic(cell: &Cell, nets: &[Bits], into: &mut Bits) -> bool
     put_number(into, number)
 }
 
+/// Whether a port stands for a number below 0, in two's complement where signed.
+fn is_top_set(signed: bool, a: Port) -> bool
+    requires narrow { a.width ≤ 128 }
+    requires below { a.number < 2 ^ a.width }
+    ensures { result ≡ is_below_zero signed a.width a.number }
+{
+    signed && a.width > 0 && (a.number >> (a.width - 1)) & 1 == 1
+}
+
 /// The second operand has a sign in these types alone.
 fn is_amount_signed(cell: &Cell) -> bool
     requires { is_shift cell.now.op ≡ true }
@@ -66,7 +75,8 @@ fn is_amount_signed(cell: &Cell) -> bool
     }
 }
 
-fn shifted(cell: &Cell, nets: &[Bits], into: &mut Bits) -> bool
+/// A shift of many words, word by word.
+fn shifted_words(cell: &Cell, nets: &[Bits], into: &mut Bits) -> bool
     requires kind { is_shift cell.now.op ≡ true }
     requires width { cell.now.width ≤ 65536 }
     requires a { IsSignalOf nets.now cell.now.a }
@@ -81,6 +91,41 @@ fn shifted(cell: &Cell, nets: &[Bits], into: &mut Bits) -> bool
     let shift = shift_of(cell, sig_width(a), negative, amount);
     let mut source = Source::new(a, nets, shift);
     fill(into, &mut source)
+}
+
+/// A shift of one word.
+fn shifted_word(cell: &Cell, nets: &[Bits], into: &mut Bits) -> bool
+    requires kind { is_shift cell.now.op ≡ true }
+    requires width { cell.now.width ≤ 64 }
+    requires a { AreInside nets.now cell.now.a }
+    requires a_narrow { sig_width cell.now.a ≤ 64 }
+    requires b { IsSignalOf nets.now cell.now.b }
+    requires into { into.old.width ≡ cell.now.width }
+    ensures value { into.new ≡ bit_value cell.now.width (output (digits_in nets.now) cell.now) }
+    ensures changed { result ≡ not (into.old.number == output (digits_in nets.now) cell.now) }
+{
+    let a = port_of(cell.a.as_slice(), nets);
+    let negative = is_top_set(cell.a_signed, a);
+    let amount = amount_of(cell.b.as_slice(), nets, is_amount_signed(cell));
+    let shift = shift_of(cell, a.width, negative, amount);
+    let number = moved_word(shift, a, cell.width);
+    put_number(into, number)
+}
+
+fn shifted(cell: &Cell, nets: &[Bits], into: &mut Bits) -> bool
+    requires kind { is_shift cell.now.op ≡ true }
+    requires width { cell.now.width ≤ 65536 }
+    requires a { IsSignalOf nets.now cell.now.a }
+    requires b { IsSignalOf nets.now cell.now.b }
+    requires into { into.old.width ≡ cell.now.width }
+    ensures value { into.new ≡ bit_value cell.now.width (output (digits_in nets.now) cell.now) }
+    ensures changed { result ≡ not (into.old.number == output (digits_in nets.now) cell.now) }
+{
+    if cell.width <= 64 && sig_width(cell.a.as_slice()) <= 64 {
+        shifted_word(cell, nets, into)
+    } else {
+        shifted_words(cell, nets, into)
+    }
 }
 
 fn written(cell: &Cell, nets: &[Bits], into: &mut Bits) -> bool

@@ -1,9 +1,12 @@
 //! How a shift cell moves the digits of its first operand.
 ghost use Rattle.std.specs.Prelude.{◌≡◌, ◌<◌, ◌≤◌, ◌^◌, ◌%◌, true};
+ghost use Rattle.sim_base.specs.BitValue.{bit_value};
 ghost use Rattle.circuit.specs.Output.{Inputs, modulo, formula};
 ghost use Rattle.cell_words.specs.Kinds.{is_shift};
 ghost use Rattle.cell_words.specs.Shifts.{extended, source, moved, places, is_to_the_left, IsAmount, HasWidths};
 
+use crate::arithmetic::Port;
+use crate::whole::low_ones;
 use circuit::{Cell, Op};
 
 /// The number of places that a shift cell's second operand asks for.
@@ -54,7 +57,9 @@ pub fn shift_of(cell: &Cell, a_width: u32, negative: bool, amount: Amount) -> Sh
     requires kind { is_shift cell.now.op ≡ true }
     requires width { cell.now.width ≤ 65536 }
     requires a_width { a_width ≤ 65536 }
-    ensures { (i : Inputs) → HasWidths i cell.now.width a_width negative → IsAmount amount (places cell.now.op i)
+    ensures ones { result.ones ≤ cell.now.width }
+    ensures left { result.left ≤ cell.now.width }
+    ensures value { (i : Inputs) → HasWidths i cell.now.width a_width negative → IsAmount amount (places cell.now.op i)
         → moved result i.a % 2 ^ cell.now.width ≡ modulo cell.now.width (formula cell.now.op i) }
 {
     let ones = ones_of(cell.op, cell.width, a_width, negative);
@@ -76,4 +81,20 @@ pub fn shift_of(cell: &Cell, a_width: u32, negative: bool, amount: Amount) -> Sh
         right,
         left: 0,
     }
+}
+
+/// The digits of a moved operand of at most 64 digits that an output of at most 64 bits has.
+pub fn moved_word(shift: Shift, a: Port, width: u32) -> u128
+    requires narrow { a.width ≤ 64 }
+    requires below { a.number < 2 ^ a.width }
+    requires ones { shift.ones ≤ 64 }
+    requires left { shift.left ≤ 64 }
+    requires width { width ≤ 64 }
+    ensures { result ≡ moved shift (bit_value a.width a.number) % 2 ^ width }
+{
+    if shift.right > 127 {
+        return 0;
+    }
+    let extended = (low_ones(shift.ones) << a.width) + a.number;
+    ((extended >> shift.right) << shift.left) & low_ones(width)
 }

@@ -38,11 +38,7 @@ pub fn ones_word(n: u32) -> u64
     requires { n ≤ 64 }
     ensures { result ≡ 2 ^ n - 1 }
 {
-    if n == 64 {
-        u64::MAX
-    } else {
-        (1u64 << n) - 1
-    }
+    if n == 64 { u64::MAX } else { (1u64 << n) - 1 }
 }
 
 /// A word of `own` digits with `ones` digits 1 in front.

@@ -150,8 +150,7 @@ impl Whole {
     fn remainder(&self, divisor: &Whole, times: u128) -> u128
         ensures { (quotient : ℤ) → times ≡ modulo 128 quotient → result ≡ modulo 128 (self.now -ℤ divisor.now *ℤ quotient) }
     {
-        self.low()
-            .wrapping_sub(divisor.low().wrapping_mul(times))
+        self.low().wrapping_sub(divisor.low().wrapping_mul(times))
     }
 
     /// The remainder of the quotient that is truncated toward zero, modulo 2^128.

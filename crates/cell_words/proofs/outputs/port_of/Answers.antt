@@ -8,5 +8,5 @@ use Rattle.cell_words.proofs.outputs.port_of.Goals as goal
 pub returns-clause-number : goal.returns-clause-number
 returns-clause-number c =
     two_words (sig_width c.args.sig.now) (sig_number (digits_in c.args.nets.now) c.args.sig.now) c.from-2.result c.from.result c.new-reader.result c.take-low.new.self
-        c.requires.narrow (c.sig_width-width.ensures.below c.args.nets.now) (ap (λ (v : BitValue). v.number) c.new-reader.ensures)
-        (c.from-2.ensures ∙ c.take-low.ensures.word) c.take-low.ensures.rest (c.from.ensures ∙ c.take-high.ensures.word)
+    c.requires.narrow (c.sig_width-width.ensures.below c.args.nets.now) (ap (λ (v : BitValue). v.number) c.new-reader.ensures)
+    (c.from-2.ensures ∙ c.take-low.ensures.word) c.take-low.ensures.rest (c.from.ensures ∙ c.take-high.ensures.word)

@@ -18,9 +18,9 @@ all : (c : goal.After-loop-done) → (c.loop-done.into.number ≡ c.args.source.
 all c =
     let e : c.loop-done.done ≡ c.args.into.now.width = omega (arith, c.width-width.ensures.value, c.loop-done.invariant.most, c.loop-done-test.false) in
     filled_all c.args.into.now.width c.args.source.now c.args.into.now.number c.loop-done.into.number c.loop-done.changed
-        (subst (λ (k : ℕ). Filled k c.args.source.now c.args.into.now.number c.loop-done.into.number c.loop-done.changed) e c.loop-done.invariant.filled)
-        c.width-width.ensures.below
-        (subst (λ (k : ℕ). c.loop-done.into.number < 2 ^ k) c.loop-done.invariant.width c.loop-done.invariant.below)
+    (subst (λ (k : ℕ). Filled k c.args.source.now c.args.into.now.number c.loop-done.into.number c.loop-done.changed) e c.loop-done.invariant.filled)
+    c.width-width.ensures.below
+    (subst (λ (k : ℕ). c.loop-done.into.number < 2 ^ k) c.loop-done.invariant.width c.loop-done.invariant.below)
 
 pub returns-clause-value : goal.returns-clause-value
 returns-clause-value c = ap (λ w. bit_value w c.loop-done.into.number) c.loop-done.invariant.width ∙ ap (bit_value c.args.into.now.width) (all c).0

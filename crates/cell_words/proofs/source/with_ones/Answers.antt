@@ -13,7 +13,7 @@ pub overflow_add-result : goal.overflow_add-result
 overflow_add-result c =
     let s = above c.args.own c.args.ones c.args.word c.requires.below c.requires.inside in
     let e : c.args.word + c.ones_word.result * 2 ^ c.args.own % 2 ^ 64 ≡ c.args.word + (2 ^ c.args.ones - 1) * 2 ^ c.args.own % 2 ^ 64 =
-        ap (λ x. c.args.word + x * 2 ^ c.args.own % 2 ^ 64) c.ones_word.ensures in
+    ap (λ x. c.args.word + x * 2 ^ c.args.own % 2 ^ 64) c.ones_word.ensures in
     omega (arith, s.fits, e)
 
 pub returns : goal.returns

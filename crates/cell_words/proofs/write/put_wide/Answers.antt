@@ -15,10 +15,10 @@ written c =
     let old : ℕ → Type 0 = λ k. c.args.into.now.number < 2 ^ k in
     let new : ℕ → Type 0 = λ k. c.put_part-high.new.into.number < 2 ^ k in
     wide_written c.width-width.result c.args.into.now.number c.put_part-low.new.into.number c.put_part-high.new.into.number c.args.number
-        c.low_word.result (c.args.number / 2 ^ 64) c.put_part-low.result c.put_part-high.result (omega arith)
-        (subst number (sym width) c.requires.below) (subst old (sym width) c.width-width.ensures.below)
-        (subst new (c.put_part-high.ensures.width ∙ c.put_part-low.ensures.width ∙ sym width) c.put_part-high.ensures.below)
-        c.low_word.ensures refl c.put_part-low.ensures.bits c.put_part-low.ensures.changed c.put_part-high.ensures.bits c.put_part-high.ensures.changed
+    c.low_word.result (c.args.number / 2 ^ 64) c.put_part-low.result c.put_part-high.result (omega arith)
+    (subst number (sym width) c.requires.below) (subst old (sym width) c.width-width.ensures.below)
+    (subst new (c.put_part-high.ensures.width ∙ c.put_part-low.ensures.width ∙ sym width) c.put_part-high.ensures.below)
+    c.low_word.ensures refl c.put_part-low.ensures.bits c.put_part-low.ensures.changed c.put_part-high.ensures.bits c.put_part-high.ensures.changed
 
 pub returns-clause-value : goal.returns-clause-value
 returns-clause-value c =

@@ -9,5 +9,5 @@ invariant_of-self c =
 pub returns : goal.returns
 returns c =
     rest_taken c.args.n c.self.inside.ones c.self.inside.own c.min-own.result c.min.result c.self.inside.signal c.skip.new.self
-        c.self.invariant.0 c.self.invariant.1 c.min-own.ensures c.min.ensures c.skip.ensures
+    c.self.invariant.0 c.self.invariant.1 c.min-own.ensures c.min.ensures c.skip.ensures
     ∙ ap (λ x. x / 2 ^ c.args.n) c.self.view_is

@@ -13,11 +13,11 @@ pub returns-clause-word : goal.returns-clause-word
 returns-clause-word c =
     c.with_ones.ensures
     ∙ word_taken c.args.n c.self.inside.ones c.self.inside.own c.min-own.result c.min-more.result c.self.inside.signal c.take-word.result
-        c.self.invariant.0 c.self.invariant.1 c.min-own.ensures c.min-more.ensures c.take-word.ensures.word
+    c.self.invariant.0 c.self.invariant.1 c.min-own.ensures c.min-more.ensures c.take-word.ensures.word
     ∙ ap (λ x. x % 2 ^ c.args.n) c.self.view_is
 
 pub returns-clause-rest : goal.returns-clause-rest
 returns-clause-rest c =
     rest_taken c.args.n c.self.inside.ones c.self.inside.own c.min-own.result c.min-more.result c.self.inside.signal c.take-word.new.self
-        c.self.invariant.0 c.self.invariant.1 c.min-own.ensures c.min-more.ensures c.take-word.ensures.rest
+    c.self.invariant.0 c.self.invariant.1 c.min-own.ensures c.min-more.ensures c.take-word.ensures.rest
     ∙ ap (λ x. x / 2 ^ c.args.n) c.self.view_is

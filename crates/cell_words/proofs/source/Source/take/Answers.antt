@@ -7,7 +7,7 @@ pub returns-then-word-eq0-clause-word : goal.returns-then-word-eq0-clause-word
 returns-then-word-eq0-clause-word c =
     let t = zeros_taken c.args.n c.self.inside.zeros c.self.inside.digits c.min-below.result c.min-below.ensures in
     sym (ap (λ x. x % 2 ^ c.args.n) (sym c.self.view_is) ∙ t.0
-      ∙ ap (λ x. x * 2 ^ c.min-below.result) (sym c.take-word.ensures.word ∙ c.if-word-eq0.true) ∙ zero-mul (2 ^ c.min-below.result))
+    ∙ ap (λ x. x * 2 ^ c.min-below.result) (sym c.take-word.ensures.word ∙ c.if-word-eq0.true) ∙ zero-mul (2 ^ c.min-below.result))
 
 pub returns-then-word-eq0-clause-rest : goal.returns-then-word-eq0-clause-rest
 returns-then-word-eq0-clause-rest c =
