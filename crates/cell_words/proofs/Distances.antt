@@ -1,17 +1,15 @@
 -- How far a number is from 0, or from the digits that are all 1.
-use Rattle.std.proofs.Common.{◌≡◌, ℕ, zero, suc, ◌+◌, ◌-◌, ◌*◌, ◌/◌, ◌%◌, ◌^◌, ◌<◌, ◌≤◌, refl, sym, ◌∙◌, ap, arith, inl, inr, subst, min, Bool, true, false, cond, ◌&&◌, ◌⊎◌}
+use Rattle.std.proofs.Common.{◌≡◌, ℕ, ◌+◌, ◌-◌, ◌*◌, ◌/◌, ◌%◌, ◌^◌, ◌<◌, ◌≤◌, refl, sym, ◌∙◌, ap, arith, inl, inr, subst, min, Bool, true, false, cond, ◌&&◌, ◌⊎◌}
 use Rattle.std.proofs.lemmas.Bool.{cases_lt, eq-eqb, ne_eqb, cond-true}
 use Rattle.std.specs.Prelude.{◌==◌, ℤ, pos, negsuc, ◌-ℤ◌, int_lt}
 use Rattle.std.proofs.lemmas.Bool.Decides.{eqb_tells}
 use Rattle.std.proofs.lemmas.Nat.{mod_below, pow_pos, pow-add, div-add-mod', shr_below}
-use Rattle.std.proofs.Math.Nat.{pow-le-pow_right, div-eq_of_lt}
 use Rattle.std.proofs.lemmas.Int.{ints}
 use borrow.Author.Differences.{up, down}
 use Rattle.sim_base.specs.BitValue.{BitValue, bit_value}
 use Rattle.circuit.specs.Output.{operand}
 use Rattle.cell_words.specs.Wholes.{magnitude}
 use Rattle.cell_words.specs.Shifts.{farthest, all_ones, is_below_zero, IsAmount}
-use Rattle.cell_words.specs.declared.shift.Amount.{Amount}
 use Rattle.cell_words.proofs.Filled.{same_places}
 
 ones_split : (ones : Bool) (n left : ℕ) → n ≤ left → all_ones ones left ≡ all_ones ones (left - n) * 2 ^ n + all_ones ones n

@@ -1,14 +1,14 @@
 -- Numbers written part by part, from the least digit on.
-use Rattle.std.proofs.Common.{◌≡◌, ℕ, zero, suc, ◌+◌, ◌-◌, ◌*◌, ◌/◌, ◌%◌, ◌^◌, ◌<◌, ◌≤◌, refl, sym, ◌∙◌, ap, arith, inl, inr, subst, Bool, true, false, not, ◌||◌, ◌&&◌}
-use Rattle.std.proofs.lemmas.Bool.{cases_lt, eq-eqb, ne_eqb}
+use Rattle.std.proofs.Common.{◌≡◌, ℕ, ◌+◌, ◌-◌, ◌*◌, ◌/◌, ◌%◌, ◌^◌, ◌<◌, ◌≤◌, refl, sym, ◌∙◌, ap, arith, inl, inr, subst, Bool, true, false, not, ◌||◌, ◌&&◌}
+use Rattle.std.proofs.lemmas.Bool.{eq-eqb, ne_eqb}
 use Rattle.std.proofs.lemmas.Bool.Decides.{eqb_tells}
 use Rattle.std.specs.Prelude.{◌==◌}
 use Rattle.std.proofs.lemmas.Nat.{mod_below, pow_pos, mod-pow-add, same_from_place, shr_below}
-use Rattle.std.proofs.lemmas.Nat.Bits.{bit_at_above, same_from_bits_below}
+use Rattle.std.proofs.lemmas.Nat.Bits.{same_from_bits_below}
 use Rattle.std.proofs.Math.Nat.{mod-eq_of_lt, mod-one, div-one, pow-le-pow_right}
 use Rattle.std.specs.Int.{bit_at}
 use Rattle.sim_base.specs.BitValue.{digit_after_copy}
-use Rattle.sim_base.proofs.Words.{copied_in, copied_above, copied_below}
+use Rattle.sim_base.proofs.Words.{copied_in, copied_above}
 use Rattle.sim_base.proofs.Field.{bit_at_mod, bit_at_shr}
 use Rattle.sim_base.proofs.Copies.{copied_join}
 

@@ -1,6 +1,6 @@
 -- What is read of the ports of a cell.
-use Rattle.std.proofs.Common.{◌≡◌, ℕ, ◌+◌, ◌-◌, ◌*◌, ◌/◌, ◌%◌, ◌^◌, ◌<◌, ◌≤◌, sym, ◌∙◌, ap, arith, Bool, true}
-use Rattle.std.proofs.lemmas.Nat.{div-add-mod', shr_below, shl_below, pow_pos, mod_below}
+use Rattle.std.proofs.Common.{◌≡◌, ℕ, ◌+◌, ◌-◌, ◌*◌, ◌/◌, ◌%◌, ◌^◌, ◌<◌, ◌≤◌, ◌∙◌, ap, arith}
+use Rattle.std.proofs.lemmas.Nat.{div-add-mod', shr_below, shl_below}
 use Rattle.std.proofs.Math.Nat.{pow-le-pow_right, mod-eq_of_lt}
 use Rattle.sim_base.specs.BitValue.{BitValue, bit_value}
 

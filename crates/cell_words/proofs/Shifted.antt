@@ -1,15 +1,15 @@
 -- Shifts, as moves of digits.
-use Rattle.std.proofs.Common.{◌≡◌, ℕ, zero, suc, ◌+◌, ◌-◌, ◌*◌, ◌/◌, ◌%◌, ◌^◌, ◌<◌, ◌≤◌, refl, sym, ◌∙◌, ap, arith, inl, inr, subst, min, max, Bool, true, false}
+use Rattle.std.proofs.Common.{◌≡◌, ℕ, ◌+◌, ◌-◌, ◌*◌, ◌/◌, ◌%◌, ◌^◌, ◌<◌, ◌≤◌, sym, ◌∙◌, ap, arith, inl, inr, min}
 use Rattle.std.proofs.lemmas.Bool.{cases_lt}
-use Rattle.std.proofs.lemmas.Nat.{mod_below, pow_pos, pow-add, div-add-mod', shr_high, mod_low, field_of, mod-pow-add}
-use Rattle.std.proofs.Math.Nat.{add-mul-mod_self_right, mod-eq_of_lt, mul-mod_left, min-eq_left, min-eq_right, div-eq_of_lt, pow-le-pow_right, div-one, mul-one, mul_assoc, zero-div, zero-mod}
-use Rattle.std.specs.Prelude.{ℤ, pos, negsuc, ◌+ℤ◌, ◌-ℤ◌, ◌*ℤ◌, neg_ℤ}
+use Rattle.std.proofs.lemmas.Nat.{mod_below, pow_pos, pow-add, shr_high, field_of, mod-pow-add}
+use Rattle.std.proofs.Math.Nat.{mod-eq_of_lt, mul-mod_left, div-eq_of_lt, pow-le-pow_right, div-one, mul-one, mul_assoc}
+use Rattle.std.specs.Prelude.{ℤ, pos, negsuc, ◌-ℤ◌, ◌*ℤ◌}
 use Rattle.std.proofs.lemmas.Int.{ints}
-use Rattle.sim_base.specs.BitValue.{BitValue, bit_value}
-use Rattle.circuit.specs.Output.{modulo, operand, floor_by, formula, Inputs}
+use Rattle.sim_base.specs.BitValue.{BitValue}
+use Rattle.circuit.specs.Output.{modulo, floor_by}
 use borrow.Author.Differences.{up, down}
 use Rattle.cell_words.specs.Shifts.{extended, farthest}
-use Rattle.cell_words.proofs.Modulo.{Is, is_only, modulo_is, modulo_below, is_product, is_lower, modulo_of, modulo_lower}
+use Rattle.cell_words.proofs.Modulo.{Is, is_only, is_product, modulo_of, modulo_lower}
 
 pub is_itself : (m n : ℕ) → Is m (pos n) n
 is_itself m n = (0, 0, omega arith)

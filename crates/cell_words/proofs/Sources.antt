@@ -1,21 +1,20 @@
 -- What shift cells move, and where.
-use Rattle.std.proofs.Common.{◌≡◌, ℕ, zero, suc, ◌+◌, ◌-◌, ◌*◌, ◌/◌, ◌%◌, ◌^◌, ◌<◌, ◌≤◌, refl, sym, ◌∙◌, ap, arith, inl, inr, subst, min, max, Bool, true, false, ◌&&◌, ltb, cond, ◌⊎◌, bit_and}
-use Rattle.std.proofs.lemmas.Bool.{cond-true, cond-false, ltb-true}
-use Rattle.std.specs.Prelude.{ℤ, pos, negsuc, ◌+ℤ◌, ◌-ℤ◌, ◌*ℤ◌, neg_ℤ, int_lt, ◌==◌}
-use Rattle.std.specs.Int.{bit_at}
+use Rattle.std.proofs.Common.{◌≡◌, ℕ, suc, ◌+◌, ◌-◌, ◌*◌, ◌/◌, ◌%◌, ◌^◌, ◌<◌, ◌≤◌, refl, sym, ◌∙◌, ap, arith, inl, inr, subst, min, max, Bool, true, false, cond, ◌⊎◌, bit_and}
+use Rattle.std.proofs.lemmas.Bool.{cond-true, cond-false}
+use Rattle.std.specs.Prelude.{ℤ, pos, negsuc, ◌-ℤ◌, ◌*ℤ◌, int_lt}
 use Rattle.std.proofs.lemmas.Nat.{and_mask, pow_pos, pow-add}
 use Rattle.std.proofs.Math.Nat.{mod-eq_of_lt, pow-le-pow_right, zero-mul, zero-mod}
 use Rattle.std.proofs.Math.Pow.{mod-mod-pow}
 use borrow.Author.Differences.{up, down}
 use Rattle.std.proofs.lemmas.Int.{ints}
-use Rattle.sim_base.specs.BitValue.{BitValue, bit_value}
-use Rattle.circuit.specs.Output.{modulo, operand, floor_by, shifted, formula, first, widened, Inputs}
+use Rattle.sim_base.specs.BitValue.{BitValue}
+use Rattle.circuit.specs.Output.{modulo, shifted, formula, first, widened, Inputs}
 use Rattle.circuit.specs.declared.cell.Op.{Op}
 use Rattle.circuit.specs.declared.cell.Op.TheVariants as op
 use Rattle.cell_words.specs.Wholes.{magnitude}
 use Rattle.cell_words.specs.Kinds.{is_shift}
 use Rattle.cell_words.specs.Shifts.{extended, farthest, source, places, is_to_the_left, is_negative}
-use Rattle.cell_words.proofs.Modulo.{Is, modulo_is, is_product, is_lower, modulo_of}
+use Rattle.cell_words.proofs.Modulo.{modulo_is, is_product, is_lower, modulo_of}
 use Rattle.cell_words.proofs.Shifted.{none_right, is_itself, extended_is, extended_not, extended_below, moved_left, moved_right, moved_floor}
 
 first_unsigned : (i : Inputs) → is_negative i ≡ false → first i ≡ pos i.a.number
@@ -169,7 +168,6 @@ word_moved ones right left w L R a le narrow l r =
     let product : 2 ^ ones * 2 ^ a.width ≡ ((2 ^ ones - 1) + 1) * 2 ^ a.width = ap (λ t. t * 2 ^ a.width) whole in
     let fits : (2 ^ ones - 1) * 2 ^ a.width < 2 ^ 128 = omega arith in
     let s : 128 - w + w ≡ 128 = omega arith in
-
     ap (λ t. bit_and ((t * 2 ^ a.width % 2 ^ 128 + a.number) / 2 ^ right * 2 ^ left % 2 ^ 128) R) l
     ∙ ap (λ t. bit_and ((t + a.number) / 2 ^ right * 2 ^ left % 2 ^ 128) R) (mod-eq_of_lt fits)
     ∙ ap (bit_and (extended ones a / 2 ^ right * 2 ^ left % 2 ^ 128)) r

@@ -1,8 +1,8 @@
 -- Whole numbers in 128 digits and a sign.
-use Rattle.std.proofs.Common.{◌≡◌, ℕ, ◌+◌, ◌-◌, ◌*◌, ◌/◌, ◌%◌, ◌^◌, ◌<◌, ◌≤◌, Bool, true, false, refl, sym, ◌∙◌, ap, arith, inl, inr}
+use Rattle.std.proofs.Common.{◌≡◌, ℕ, ◌^◌, ◌<◌, Bool, true, false, arith}
 use Rattle.std.proofs.lemmas.Int.{ints}
 use Rattle.std.specs.Bool.{beq}
-use Rattle.std.specs.Prelude.{ℤ, pos, negsuc, int_lt}
+use Rattle.std.specs.Prelude.{int_lt}
 use Rattle.cell_words.specs.Wholes.{whole}
 
 -- of two numbers of which one alone is below 0 that one is the lower

@@ -1,5 +1,5 @@
 -- The types of cells that are computed with whole numbers or shift.
-use Rattle.std.specs.Prelude.{◌≡◌, ℕ, ◌<◌, ◌^◌, ℤ, Bool, true, false, ◌||◌}
+use Rattle.std.specs.Prelude.{◌≡◌, ◌<◌, ◌^◌, ℤ, Bool, true, false, ◌||◌}
 use Rattle.circuit.specs.Output.{Inputs, left, right}
 use Rattle.sim_base.specs.BitValue.{BitValue}
 use Rattle.circuit.specs.declared.cell.Cell.{Cell}

@@ -1,5 +1,5 @@
 -- Whole numbers in digits.
-use Rattle.std.specs.Prelude.{◌≡◌, ℕ, zero, suc, ◌+◌, ◌*◌, ℤ, pos, negsuc, ◌-ℤ◌, Bool, ◌^◌, if◌then◌else◌}
+use Rattle.std.specs.Prelude.{ℕ, suc, ℤ, pos, negsuc, ◌-ℤ◌, Bool, ◌^◌, if◌then◌else◌}
 
 -- the absolute value
 abbrev pub magnitude : ℤ → ℕ

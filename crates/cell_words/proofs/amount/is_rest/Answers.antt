@@ -1,6 +1,6 @@
-use Rattle.std.proofs.Common.{◌≡◌, ◌∙◌, ap, sym, arith}
+use Rattle.std.proofs.Common.{◌∙◌, ap, sym, arith}
 use Rattle.sim_base.specs.BitValue.{BitValue}
-use Rattle.cell_words.proofs.Distances.{rest_differs, rest_goes_on, rest_ends, rest_fits}
+use Rattle.cell_words.proofs.Distances.{rest_differs, rest_goes_on, rest_fits}
 use Rattle.cell_words.proofs.amount.is_rest.Goals as goal
 
 pub returns-then-word-all_ones : goal.returns-then-word-all_ones

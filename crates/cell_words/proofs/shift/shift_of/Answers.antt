@@ -1,5 +1,4 @@
-use Rattle.std.proofs.Common.{◌≡◌, ◌+◌, ◌-◌, ◌≤◌, ◌∙◌, sym, ap, arith}
-use Rattle.cell_words.specs.Shifts.{extended, source}
+use Rattle.std.proofs.Common.{◌+◌, ◌≤◌, arith}
 use Rattle.cell_words.proofs.Sources.{left_answer, right_answer, floor_answer}
 use Rattle.cell_words.proofs.shift.shift_of.Goals as goal
 

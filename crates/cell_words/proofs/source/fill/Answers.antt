@@ -1,4 +1,4 @@
-use Rattle.std.proofs.Common.{ℕ, ◌≡◌, ◌+◌, ◌-◌, ◌*◌, ◌/◌, ◌%◌, ◌^◌, ◌<◌, ◌≤◌, ◌==◌, not, ◌∙◌, ap, sym, subst, arith}
+use Rattle.std.proofs.Common.{ℕ, ◌≡◌, ◌/◌, ◌%◌, ◌^◌, ◌<◌, ◌==◌, not, ◌∙◌, ap, subst, arith}
 use Rattle.std.proofs.lemmas.Nat.{shr-shr}
 use Rattle.sim_base.specs.BitValue.{bit_value}
 use Rattle.cell_words.proofs.Filled.{Filled, filled_more, filled_all}

@@ -1,4 +1,4 @@
-use Rattle.std.proofs.Common.{◌≡◌, ◌-◌, ◌/◌, ◌^◌, ◌≤◌, ◌∙◌, ap, arith}
+use Rattle.std.proofs.Common.{◌/◌, ◌^◌, ◌∙◌, ap, arith}
 use Rattle.cell_words.proofs.Taken.{rest_inside, rest_taken}
 use Rattle.cell_words.proofs.source.Extended.skip.Goals as goal
 

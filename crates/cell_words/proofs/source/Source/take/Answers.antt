@@ -1,4 +1,4 @@
-use Rattle.std.proofs.Common.{◌≡◌, ◌+◌, ◌-◌, ◌*◌, ◌/◌, ◌%◌, ◌^◌, ◌<◌, ◌≤◌, ◌∙◌, ap, sym, ℕ, arith}
+use Rattle.std.proofs.Common.{◌-◌, ◌*◌, ◌/◌, ◌%◌, ◌^◌, ◌∙◌, ap, sym, arith}
 use Rattle.std.proofs.Math.Nat.{zero-mul}
 use Rattle.cell_words.proofs.Taken.{zeros_taken, word_whole}
 use Rattle.cell_words.proofs.source.Source.take.Goals as goal
