@@ -7,7 +7,7 @@ mod Multiples
 mod Texts
 mod Tested
 mod Slots
-mod Gathered
+pub mod Gathered
 mod Still
 mod Widths
 mod Below

@@ -1,0 +1,161 @@
+//! Registers and latches.
+ghost use Rattle.std.specs.Prelude.{◌≡◌, ℕ, ◌+◌, ◌-◌, ◌/◌, ◌%◌, ◌^◌, ◌<◌, ◌≤◌, ◌==◌, not, true, if◌then◌else◌};
+ghost use Rattle.std.specs.Int.{bit_at};
+ghost use Rattle.sim_base.specs.BitValue.{bit_value};
+ghost use Rattle.circuit.specs.Next.{asked, bit_by_bit, next_number};
+ghost use Rattle.circuit.specs.Signal.{Digits, sig_number, sig_value, sig_width};
+ghost use Rattle.circuit.specs.Valid.{ports_of, widest};
+ghost use Rattle.signal_words.specs.Values.{AreInside, digits_in};
+ghost use Rattle.state_cells.specs.Registers.{HasWidths, IsRegisterOf};
+ghost use Rattle.state_cells.specs.Sources.{has_source, number_of};
+
+use crate::parts::{active_digits, overlaid, put_part};
+use crate::source::{Source, source_of};
+use circuit::{Piece, Reg, RegKind, Store};
+use signal_words::{SigReader, sig_width, sig_word};
+use sim_base::Bits;
+
+/// Puts the next value of a register, from the values of the nets in the round before and in this one,
+/// in the place of its present one, and tells whether the two differ. It takes no memory.
+pub fn next(reg: &Reg, before: &Store, now: &Store, into: &mut Bits) -> bool
+    requires fits { IsRegisterOf before.now.nets now.now.nets reg.now }
+    requires width { into.old.width ≡ reg.now.width }
+    ensures value { into.new ≡ bit_value reg.now.width (next_number (digits_in before.now.nets) (digits_in now.now.nets) reg.now into.old.number) }
+    ensures changed { result ≡ not (into.new.number == into.old.number) }
+{
+    let nets = now.nets.as_slice();
+    let source = source_of(reg, before.nets.as_slice(), nets);
+    if has_bits(reg.kind) {
+        put_under_bits(reg, source.is_input(), nets, into)
+    } else {
+        put_whole(reg, source, nets, into)
+    }
+}
+
+/// Whether registers of a kind have ports that set and clear each bit.
+fn has_bits(kind: RegKind) -> bool
+    ensures { result ≡ (ports_of kind).bits }
+{
+    matches!(
+        kind,
+        RegKind::Dffsr | RegKind::Dffsre | RegKind::Sr | RegKind::Dlatchsr
+    )
+}
+
+/// Puts the value that comes from a source.
+fn put_whole(reg: &Reg, source: Source, nets: &[Bits], into: &mut Bits) -> bool
+    requires there { has_source (ports_of reg.now.kind) source ≡ true }
+    requires widths { HasWidths (ports_of reg.now.kind) reg.now }
+    requires d { AreInside nets.now reg.now.d }
+    requires ad { AreInside nets.now reg.now.ad }
+    requires width { into.old.width ≡ reg.now.width }
+    ensures value { (before : Digits) → into.new ≡ bit_value reg.now.width (number_of source (asked before (digits_in nets.now) reg.now) into.old.number) }
+    ensures changed { result ≡ not (into.new.number == into.old.number) }
+{
+    match source {
+        Source::Own => false,
+        Source::Input => put_signal(reg.d.as_slice(), nets, into),
+        Source::Load => put_signal(reg.ad.as_slice(), nets, into),
+        Source::Value => put_value(&reg.value, into),
+    }
+}
+
+/// Puts another value of the same width.
+pub fn put_value(value: &Bits, into: &mut Bits) -> bool
+    requires { into.old.width ≡ value.now.width }
+    ensures value { into.new ≡ value.now }
+    ensures changed { result ≡ not (into.new.number == into.old.number) }
+{
+    let changed = !into.same(value);
+    let width = value.width();
+    into.copy(0, value, 0, width);
+    changed
+}
+
+/// Puts what a signal of the same width holds.
+fn put_signal(sig: &[Piece], nets: &[Bits], into: &mut Bits) -> bool
+    requires inside { AreInside nets.now sig.now }
+    requires small { sig_width sig.now ≤ widest }
+    requires width { into.old.width ≡ sig_width sig.now }
+    ensures value { into.new ≡ sig_value (digits_in nets.now) sig.now }
+    ensures changed { result ≡ not (into.new.number == into.old.number) }
+{
+    if into.width() <= 64 {
+        put_word(sig_word(sig, nets), into)
+    } else {
+        put_words(sig, nets, into)
+    }
+}
+
+/// Puts a word into a value of at most 64 bits.
+fn put_word(word: u64, into: &mut Bits) -> bool
+    requires small { into.old.width ≤ 64 }
+    requires below { word < 2 ^ into.old.width }
+    ensures value { into.new ≡ bit_value into.old.width word }
+    ensures changed { result ≡ not (into.new.number == into.old.number) }
+{
+    let width = into.width();
+    let changed = word != into.field(0, width);
+    into.put(word);
+    changed
+}
+
+/// Puts what a signal of the same width holds, 64 bits at a time.
+fn put_words(sig: &[Piece], nets: &[Bits], into: &mut Bits) -> bool
+    requires inside { AreInside nets.now sig.now }
+    requires small { sig_width sig.now ≤ widest }
+    requires width { into.old.width ≡ sig_width sig.now }
+    ensures value { into.new ≡ sig_value (digits_in nets.now) sig.now }
+    ensures changed { result ≡ not (into.new.number == into.old.number) }
+{
+    let width = sig_width(sig);
+    let _ = into.width();
+    let mut reader = SigReader::new(sig, nets);
+    let mut changed = false;
+    let mut at = 0u32;
+    while at < width {
+        let n = (width - at).min(64);
+        changed |= put_part(into, at, n, reader.take(n));
+        at += n;
+    }
+    changed
+}
+
+/// One of two words.
+fn input_or_own(from_input: bool, input: u64, own: u64) -> u64
+    ensures { result ≡ (if from_input then input else own) }
+{
+    if from_input { input } else { own }
+}
+
+/// Puts each bit cleared, or else set, or else that of the input or its own.
+fn put_under_bits(reg: &Reg, from_input: bool, nets: &[Bits], into: &mut Bits) -> bool
+    requires d { AreInside nets.now reg.now.d }
+    requires set { AreInside nets.now reg.now.set }
+    requires clr { AreInside nets.now reg.now.clr }
+    requires d_small { sig_width reg.now.d ≤ widest }
+    requires set_small { sig_width reg.now.set ≤ widest }
+    requires clr_small { sig_width reg.now.clr ≤ widest }
+    requires small { reg.now.width ≤ widest }
+    requires width { into.old.width ≡ reg.now.width }
+    ensures value { (before : Digits) → into.new ≡ bit_value reg.now.width (bit_by_bit reg.now.width (asked before (digits_in nets.now) reg.now)
+        (if from_input then sig_number (digits_in nets.now) reg.now.d else into.old.number)) }
+    ensures changed { result ≡ not (into.new.number == into.old.number) }
+{
+    let width = into.width();
+    let mut input = SigReader::new(reg.d.as_slice(), nets);
+    let mut set = SigReader::new(reg.set.as_slice(), nets);
+    let mut clr = SigReader::new(reg.clr.as_slice(), nets);
+    let mut changed = false;
+    let mut at = 0u32;
+    while at < width {
+        let n = (width - at).min(64);
+        let own = into.field(at, n);
+        let rest = input_or_own(from_input, input.take(n), own);
+        let set_digits = active_digits(reg.pol.set, set.take(n));
+        let clr_digits = active_digits(reg.pol.clr, clr.take(n));
+        changed |= put_part(into, at, n, overlaid(rest, set_digits, clr_digits));
+        at += n;
+    }
+    changed
+}
