@@ -1,7 +1,7 @@
 pub mod Written
 pub mod Masks
 pub mod Same
-mod Overlaid
+pub mod Overlaid
 mod Chosen
 mod Edges
 mod Fitting

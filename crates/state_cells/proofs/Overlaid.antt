@@ -22,7 +22,7 @@ pub whole_below : (high_clr high_set : Bool) (clr set rest w : ℕ) → gathered
 whole_below high_clr high_set clr set rest w = gathered_below w (digit_under high_clr high_set clr set rest) (digit_under_below high_clr high_set clr set rest)
 
 -- a digit of the part that is taken of a number
-taken_digit : (number left word at n j : ℕ) → left ≡ number / 2 ^ at → word ≡ left % 2 ^ n → j < n → bit_at word j ≡ bit_at number (at + j)
+pub taken_digit : (number left word at n j : ℕ) → left ≡ number / 2 ^ at → word ≡ left % 2 ^ n → j < n → bit_at word j ≡ bit_at number (at + j)
 taken_digit number left word at n j l e lt = ap (λ m. bit_at m j) (e ∙ ap (λ m. m % 2 ^ n) l) ∙ field_digit number at n j lt
 
 rest_digit : (from_input : Bool) (input old now left word own rest at n j : ℕ) → left ≡ input / 2 ^ at → word ≡ left % 2 ^ n → own ≡ now / 2 ^ at % 2 ^ n → rest ≡ cond from_input word own

@@ -8,17 +8,23 @@ use Rattle.sim_base.proofs.Words.{copied_in, copied_below, copied_above}
 use Rattle.sim_base.proofs.Field.{bit_at_mod, bit_at_shr}
 use Rattle.state_cells.proofs.Same.{same_value}
 
--- the digits below `at` are those of the target, and the others still the old ones; and whether one changed
-pub record Written (target old at now : ℕ) (changed : Bool) : Type 0 where
+-- the digits below `at` are those of the target, and the others still the old ones
+pub record Placed (target old at now : ℕ) : Type 0 where
   pub low : (j : ℕ) → j < at → bit_at now j ≡ bit_at target j
   pub high : (j : ℕ) → at ≤ j → bit_at now j ≡ bit_at old j
+
+-- the same, and whether one changed
+pub record Written (target old at now : ℕ) (changed : Bool) : Type 0 where
+  pub placed : Placed target old at now
   pub told : changed ≡ not (eqb now old)
 
 -- nothing is written
+pub placed_none : (target old : ℕ) → Placed target old 0 old
+placed_none target old = record { low = λ j lt. absurd (omega arith); high = λ j le. refl }
+
 pub written_none : (target old : ℕ) → Written target old 0 old false
 written_none target old = record {
-  low = λ j lt. absurd (omega arith);
-  high = λ j le. refl;
+  placed = placed_none target old;
   told = ap not (sym (eq-eqb old old refl));
 }
 
@@ -66,12 +72,11 @@ told_further old at n now next changed rest told low high = elim (cases_eq now o
 ]
 
 -- a part more is written
-pub written_further : (target old at n word now next : ℕ) (changed part_changed : Bool) → Written target old at now changed
+pub placed_further : (target old at n word now next : ℕ) → Placed target old at now
     → ((j : ℕ) → bit_at next j ≡ digit_after_copy at word 0 n now j)
-    → part_changed ≡ not (eqb (now / 2 ^ at % 2 ^ n) (next / 2 ^ at % 2 ^ n))
     → ((j : ℕ) → j < n → bit_at word j ≡ bit_at target (at + j))
-    → Written target old (at + n) next (changed || part_changed)
-written_further target old at n word now next changed part_changed w copied told part = record {
+    → Placed target old (at + n) next
+placed_further target old at n word now next w copied part = record {
   low = λ j lt. elim (cases_lt j at) [
     | inl a ↦ copied j ∙ copied_below at word 0 n now j a ∙ w.low j a
     | inr b ↦
@@ -80,12 +85,21 @@ written_further target old at n word now next changed part_changed w copied told
         copied j ∙ copied_in at word 0 n now j b lt ∙ ap (bit_at word) z ∙ part (j - at) (omega arith) ∙ ap (bit_at target) e)
   ];
   high = λ j le. copied j ∙ copied_above at word 0 n now j le ∙ w.high j (omega arith);
-  told = ap (λ b. changed || b) told ∙ told_further old at n now next changed w.high w.told (λ j lt. copied j ∙ copied_below at word 0 n now j lt) (λ j le. copied j ∙ copied_above at word 0 n now j le);
+}
+
+pub written_further : (target old at n word now next : ℕ) (changed part_changed : Bool) → Written target old at now changed
+    → ((j : ℕ) → bit_at next j ≡ digit_after_copy at word 0 n now j)
+    → part_changed ≡ not (eqb (now / 2 ^ at % 2 ^ n) (next / 2 ^ at % 2 ^ n))
+    → ((j : ℕ) → j < n → bit_at word j ≡ bit_at target (at + j))
+    → Written target old (at + n) next (changed || part_changed)
+written_further target old at n word now next changed part_changed w copied told part = record {
+  placed = placed_further target old at n word now next w.placed copied part;
+  told = ap (λ b. changed || b) told ∙ told_further old at n now next changed w.placed.high w.told (λ j lt. copied j ∙ copied_below at word 0 n now j lt) (λ j le. copied j ∙ copied_above at word 0 n now j le);
 }
 
 -- all is written
-pub written_whole : (value : BitValue) (target old width at : ℕ) (changed : Bool) → value.width ≡ width → value.number < 2 ^ value.width → target < 2 ^ width → width ≤ at → Written target old at value.number changed → value ≡ bit_value width target
-written_whole value target old width at changed same below fits le w =
+pub placed_whole : (value : BitValue) (target old width at : ℕ) → value.width ≡ width → value.number < 2 ^ value.width → target < 2 ^ width → width ≤ at → Placed target old at value.number → value ≡ bit_value width target
+placed_whole value target old width at same below fits le w =
     let P : ℕ → Type 0 = λ n. value.number < 2 ^ n in
     let under : value.number < 2 ^ width = subst P same below in
     same_value value (bit_value width target) same (same_from_bits value.number target (λ j. elim (cases_lt j width) [

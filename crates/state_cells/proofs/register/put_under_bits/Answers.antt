@@ -4,7 +4,7 @@ use Rattle.circuit.specs.Next.{asked, bit_by_bit}
 use Rattle.circuit.specs.Signal.{sig_number}
 use Rattle.sim_base.specs.BitValue.{BitValue}
 use Rattle.signal_words.specs.Values.{digits_in}
-use Rattle.state_cells.proofs.Written.{written_further, written_whole}
+use Rattle.state_cells.proofs.Written.{written_further, placed_whole}
 use Rattle.state_cells.proofs.Overlaid.{PartOf, part_digit, whole_below}
 use Rattle.state_cells.proofs.register.put_under_bits.Goals as goal
 
@@ -37,7 +37,7 @@ loop-at-preserved c =
       own_is = c.field-own.ensures;
       rest_is = c.input_or_own-rest.ensures;
       made = c.overlaid.ensures;
-      high = c.loop-at.invariant.written.high;
+      high = c.loop-at.invariant.written.placed.high;
     } in
     record {
       inside = inside;
@@ -56,7 +56,7 @@ returns-clause-value c = λ before.
     let set = sig_number (digits_in c.args.nets.now) c.args.reg.now.set in
     let input = sig_number (digits_in c.args.nets.now) c.args.reg.now.d in
     let width : c.width-width.result ≡ c.args.reg.now.width = c.width-width.ensures.value ∙ c.requires.width in
-    written_whole c.loop-at.into _ c.args.into.now.number c.args.reg.now.width c.loop-at.at c.loop-at.changed
+    placed_whole c.loop-at.into _ c.args.into.now.number c.args.reg.now.width c.loop-at.at 
     (c.loop-at.invariant.width ∙ width) c.loop-at.invariant.below
     (whole_below c.args.reg.now.pol.clr c.args.reg.now.pol.set clr set (cond c.args.from_input input c.args.into.now.number) c.args.reg.now.width)
-    (omega (arith, c.loop-at-test.false, width)) c.loop-at.invariant.written
+    (omega (arith, c.loop-at-test.false, width)) c.loop-at.invariant.written.placed

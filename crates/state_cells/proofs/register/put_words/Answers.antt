@@ -4,7 +4,7 @@ use Rattle.std.specs.Int.{bit_at}
 use Rattle.circuit.specs.Signal.{sig_number, sig_width}
 use Rattle.sim_base.specs.BitValue.{BitValue}
 use Rattle.signal_words.specs.Values.{digits_in}
-use Rattle.state_cells.proofs.Written.{written_none, written_further, written_whole, field_digit}
+use Rattle.state_cells.proofs.Written.{written_none, written_further, placed_whole, field_digit}
 use Rattle.state_cells.proofs.register.put_words.Goals as goal
 
 pub loop-at-init : goal.loop-at-init
@@ -28,8 +28,8 @@ loop-at-preserved c = record {
 
 pub returns-clause-value : goal.returns-clause-value
 returns-clause-value c =
-    written_whole c.loop-at.into (sig_number (digits_in c.args.nets.now) c.args.sig.now) c.args.into.now.number (sig_width c.args.sig.now) c.loop-at.at c.loop-at.changed
-    (c.loop-at.invariant.width ∙ c.sig_width-width.ensures.value) c.loop-at.invariant.below (c.sig_width-width.ensures.below c.args.nets.now) (omega (arith, c.loop-at-test.false, c.sig_width-width.ensures.value)) c.loop-at.invariant.written
+    placed_whole c.loop-at.into (sig_number (digits_in c.args.nets.now) c.args.sig.now) c.args.into.now.number (sig_width c.args.sig.now) c.loop-at.at 
+    (c.loop-at.invariant.width ∙ c.sig_width-width.ensures.value) c.loop-at.invariant.below (c.sig_width-width.ensures.below c.args.nets.now) (omega (arith, c.loop-at-test.false, c.sig_width-width.ensures.value)) c.loop-at.invariant.written.placed
 
 pub returns-clause-changed : goal.returns-clause-changed
 returns-clause-changed c = c.loop-at.invariant.written.told

@@ -1,0 +1,4 @@
+mod Parts
+mod HighDigits
+mod MaskedDigits
+mod RowAfter

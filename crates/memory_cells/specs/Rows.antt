@@ -1,0 +1,13 @@
+-- The rows of a memory.
+use Rattle.std.specs.Prelude.{ℕ, List}
+use Rattle.circuit.specs.Run.{start_stored}
+use Rattle.circuit.specs.declared.memory.Mem.{Mem}
+
+-- the width of a row in bits, and the number of each row
+pub record RowValues : Type 0 where
+  pub width : ℕ
+  pub rows : List ℕ
+
+-- before the first sample
+abbrev pub start_rows : Mem → RowValues
+start_rows m = record { width = m.width; rows = (start_stored m).rows }
