@@ -57,3 +57,8 @@ seen_at i size width number seen e lt =
       wide = sym (ap (λ (r : RowValues). r.width) e);
       row = sym (ap (λ (r : RowValues). get_or r.rows i 0) e) ∙ part_at width size number i there;
     }
+
+pub part_below : (width size n i : ℕ) → i < size → get_or (parts width size n) i 0 < 2 ^ width
+part_below width size n i lt =
+    let P : ℕ → Type 0 = λ m. m < 2 ^ width in
+    subst P (sym (part_at width size n i lt)) (mod_below (n / 2 ^ (i * width)) (2 ^ width) (pow_pos width))

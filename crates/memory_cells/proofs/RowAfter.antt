@@ -30,15 +30,15 @@ or_else_assoc : (a b c : Option ℕ) → or_else (or_else a b) c ≡ or_else a (
 or_else_assoc (Some n) b c = refl
 or_else_assoc None b c = refl
 
-unwrap_or_else : (a b : Option ℕ) (x : ℕ) → unwrap_or (or_else a b) x ≡ unwrap_or a (unwrap_or b x)
+pub unwrap_or_else : (a b : Option ℕ) (x : ℕ) → unwrap_or (or_else a b) x ≡ unwrap_or a (unwrap_or b x)
 unwrap_or_else (Some n) b x = refl
 unwrap_or_else None b x = refl
 
-written_cons : (before now : Digits) (address i : ℕ) (mark : Bool) (marks : List Bool) (p : WritePort) (ports : List WritePort) → written before now address i (mark ∷ marks) (p ∷ ports) ≡ or_else (written before now address i marks ports) (one before now address i mark p)
+pub written_cons : (before now : Digits) (address i : ℕ) (mark : Bool) (marks : List Bool) (p : WritePort) (ports : List WritePort) → written before now address i (mark ∷ marks) (p ∷ ports) ≡ or_else (written before now address i marks ports) (one before now address i mark p)
 unfolding written
 written_cons before now address i mark marks p ports = refl
 
-written_nil : (before now : Digits) (address i : ℕ) (marks : List Bool) → written before now address i marks [] ≡ None
+pub written_nil : (before now : Digits) (address i : ℕ) (marks : List Bool) → written before now address i marks [] ≡ None
 unfolding written
 written_nil before now address i marks = refl
 

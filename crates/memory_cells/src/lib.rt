@@ -2,7 +2,9 @@
 #![tactic(auto)]
 
 mod address;
+mod clock;
 mod rows;
 mod write;
 
+pub use clock::read_port;
 pub use rows::Rows;
