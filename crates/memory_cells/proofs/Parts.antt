@@ -7,7 +7,8 @@ use Rattle.std.specs.Int.{bit_at}
 use Rattle.sim_base.specs.BitValue.{BitValue, bit_value, digit_after_copy}
 use Rattle.sim_base.proofs.Words.{copied_in}
 use Rattle.circuit.specs.Run.{parts}
-use Rattle.memory_cells.specs.Rows.{RowValues}
+use Rattle.circuit.specs.declared.memory.Mem.{Mem}
+use Rattle.memory_cells.specs.Rows.{AreRowsOf, RowValues}
 use Rattle.state_cells.proofs.Same.{same_value}
 use Rattle.state_cells.proofs.Written.{field_digit}
 
@@ -62,3 +63,20 @@ pub part_below : (width size n i : ℕ) → i < size → get_or (parts width siz
 part_below width size n i lt =
     let P : ℕ → Type 0 = λ m. m < 2 ^ width in
     subst P (sym (part_at width size n i lt)) (mod_below (n / 2 ^ (i * width)) (2 ^ width) (pow_pos width))
+
+-- rows that are kept in one number, of a memory
+pub record KeptAs (m : Mem) (size width number : ℕ) (seen : RowValues) : Type 0 where
+  pub total : size * width ≡ m.size * m.width
+  pub rows : parts m.width m.size number ≡ seen.rows
+  pub same : (n : ℕ) → parts width size n ≡ parts m.width m.size n
+
+pub kept_as : (m : Mem) (size width number : ℕ) (seen : RowValues) → (let view : RowValues = record { width = width; rows = parts width size number } in view) ≡ seen → AreRowsOf m seen → KeptAs m size width number seen
+kept_as m size width number seen e fits =
+    let wide : width ≡ m.width = ap (λ (r : RowValues). r.width) e ∙ fits.width in
+    let many : size ≡ m.size = sym (length-parts width size number) ∙ ap (λ (r : RowValues). length r.rows) e ∙ fits.size in
+    let same : (n : ℕ) → parts width size n ≡ parts m.width m.size n = λ n. ap (λ w. parts w size n) wide ∙ ap (λ s. parts m.width s n) many in
+    record {
+      total = ap (λ w. size * w) wide ∙ ap (λ s. s * m.width) many;
+      rows = sym (same number) ∙ ap (λ (r : RowValues). r.rows) e;
+      same = same;
+    }

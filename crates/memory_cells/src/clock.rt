@@ -35,6 +35,31 @@ pub fn read_port(mem: &Mem, port: u32, rows: &Rows, now: &Store, into: &mut Bits
     }
 }
 
+/// Does one round's clocked reads and writes, from the values of the nets in the round before and in
+/// this one: `outs` has the value of each read port, of which those of ports with a clock may change.
+/// Reads take the rows as they were, with what is written in this round by the ports that they see.
+/// Tells whether a row or a value changed. It takes no memory.
+pub fn clock_ports(
+    mem: &Mem,
+    rows: &mut Rows,
+    before: &Store,
+    now: &Store,
+    outs: &mut [Bits],
+) -> bool
+    requires fits { IsMemoryOf before.now.nets now.now.nets mem.now }
+    requires rows { AreRowsOf mem.now rows.old }
+    requires outs { widths outs.old ≡ map (λ _. mem.now.width) mem.now.reads }
+    ensures widths { widths outs.new ≡ widths outs.old }
+    ensures width { rows.new.width ≡ rows.old.width }
+    ensures stored { stored rows.new outs.new ≡ next_stored (digits_in before.now.nets) (digits_in now.now.nets) mem.now (stored rows.old outs.old) }
+    ensures changed { result ≡ not (same_stored (stored rows.new outs.new) (stored rows.old outs.old)) }
+{
+    let (before, now) = (before.nets.as_slice(), now.nets.as_slice());
+    let read = clock_reads(mem, &rows.rows, &mut rows.row, before, now, outs);
+    let written = clock_writes(mem, &mut rows.rows, &mut rows.row, before, now);
+    read | written
+}
+
 /// Does the reads of one round.
 fn clock_reads(
     mem: &Mem,

@@ -6,5 +6,5 @@ mod clock;
 mod rows;
 mod write;
 
-pub use clock::read_port;
+pub use clock::{clock_ports, read_port};
 pub use rows::Rows;
