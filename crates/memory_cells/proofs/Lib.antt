@@ -6,3 +6,4 @@ mod Told
 mod ReadAfter
 mod SetPart
 mod Renewed
+mod Fitting

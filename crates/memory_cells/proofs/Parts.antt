@@ -42,7 +42,7 @@ copied_field from at old w new width same e below bits =
     let digits = subst Q e bits in
     same_value new (bit_value width (from / 2 ^ at % 2 ^ width)) same
     (same_from_bits_below width new.number (from / 2 ^ at % 2 ^ width) under (mod_below (from / 2 ^ at) (2 ^ width) (pow_pos width))
-      (λ j lt. let z : at + (j - 0) ≡ at + j = omega arith in digits j ∙ copied_in 0 from at width old j (omega arith) (omega arith) ∙ ap (bit_at from) z ∙ sym (field_digit from at width j lt)))
+    (λ j lt. let z : at + (j - 0) ≡ at + j = omega arith in digits j ∙ copied_in 0 from at width old j (omega arith) (omega arith) ∙ ap (bit_at from) z ∙ sym (field_digit from at width j lt)))
 
 -- what is seen of rows that are kept in one number
 pub record SeenAt (i size width number : ℕ) (seen : RowValues) : Type 0 where
@@ -66,6 +66,8 @@ part_below width size n i lt =
 
 -- rows that are kept in one number, of a memory
 pub record KeptAs (m : Mem) (size width number : ℕ) (seen : RowValues) : Type 0 where
+  pub wide : width ≡ m.width
+  pub many : size ≡ m.size
   pub total : size * width ≡ m.size * m.width
   pub rows : parts m.width m.size number ≡ seen.rows
   pub same : (n : ℕ) → parts width size n ≡ parts m.width m.size n
@@ -76,6 +78,8 @@ kept_as m size width number seen e fits =
     let many : size ≡ m.size = sym (length-parts width size number) ∙ ap (λ (r : RowValues). length r.rows) e ∙ fits.size in
     let same : (n : ℕ) → parts width size n ≡ parts m.width m.size n = λ n. ap (λ w. parts w size n) wide ∙ ap (λ s. parts m.width s n) many in
     record {
+      wide = wide;
+      many = many;
       total = ap (λ w. size * w) wide ∙ ap (λ s. s * m.width) many;
       rows = sym (same number) ∙ ap (λ (r : RowValues). r.rows) e;
       same = same;

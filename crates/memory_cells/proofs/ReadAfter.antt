@@ -111,7 +111,7 @@ outs_more before now m rows ports olds outs w i p o new changed part all lt at d
       after = after;
       told =
           told_more before now m rows ports owns i p changed part r (done.told ∙ ap (λ (xs : List ℕ). not (same_lists xs owns)) done.after)
-            (told_part ∙ ap (λ n. not (eqb n (get_or outs i o).number)) number ∙ ap (λ n. not (eqb (next_read before now m rows p (get_or owns i 0)) n)) own)
+          (told_part ∙ ap (λ n. not (eqb n (get_or outs i o).number)) number ∙ ap (λ n. not (eqb (next_read before now m rows p (get_or owns i 0)) n)) own)
           ∙ ap (λ (xs : List ℕ). not (same_lists xs owns)) (sym after);
     }
 

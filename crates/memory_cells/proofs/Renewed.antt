@@ -158,10 +158,10 @@ renewed_at before now m first p olds rows changed part place lt is size there ed
       each = λ i in'. elim (cases_eq i place) [
         | inl e ↦
             (ap (λ k. get_or (set rows place v) k 0) e ∙ get_or-set_same rows place v 0 inside
-             ∙ ap (after_all before now m (place + m.offset)) own
-             ∙ new_row before now m (place + m.offset) (get_or olds place 0) S (writes_to before now (place + m.offset) p) hits
-             ∙ ap (λ b. if b then after_all before now m (place + m.offset) (get_or olds place 0) else get_or olds place 0) (sym (some_more before now m first p (place + m.offset) lt is))
-             ∙ ap (λ k. row_of_first before now m (first + 1) (k + m.offset) (get_or olds k 0)) (sym e))
+            ∙ ap (after_all before now m (place + m.offset)) own
+            ∙ new_row before now m (place + m.offset) (get_or olds place 0) S (writes_to before now (place + m.offset) p) hits
+            ∙ ap (λ b. if b then after_all before now m (place + m.offset) (get_or olds place 0) else get_or olds place 0) (sym (some_more before now m first p (place + m.offset) lt is))
+            ∙ ap (λ k. row_of_first before now m (first + 1) (k + m.offset) (get_or olds k 0)) (sym e))
         | inr ne ↦
             (let misses : writes_to before now (i + m.offset) p ≡ false = ap (λ b. b && eqb (sig_number now p.addr) (i + m.offset)) edge ∙ ne_eqb (sig_number now p.addr) (i + m.offset) (λ e. ne (omega (arith, named, e))) in
             get_or-set_other rows place i v 0 ne ∙ r.each i in'
@@ -230,7 +230,7 @@ pub rows_whole : (before now : Digits) (m : Mem) (first : ℕ) (olds rows : List
 rows_whole before now m first olds rows changed le below r =
     same_number_lists rows (next_rows before now m 0 olds) (r.long ∙ sym (length-next_rows before now m 0 olds))
     (λ i lt. let in' : i < length olds = omega (arith, r.long) in
-      let e : i + m.offset ≡ 0 + i + m.offset = omega arith in
-      r.each i in'
-      ∙ row_of_all before now m (i + m.offset) (get_or olds i 0) (some_writes before now (i + m.offset) (take first m.writes)) (ap (some_writes before now (i + m.offset)) (take_all first m.writes le)) (below i in')
-      ∙ ap (λ a. after_all before now m a (get_or olds i 0)) e ∙ sym (next_rows_at before now m 0 olds i in'))
+    let e : i + m.offset ≡ 0 + i + m.offset = omega arith in
+    r.each i in'
+    ∙ row_of_all before now m (i + m.offset) (get_or olds i 0) (some_writes before now (i + m.offset) (take first m.writes)) (ap (some_writes before now (i + m.offset)) (take_all first m.writes le)) (below i in')
+    ∙ ap (λ a. after_all before now m a (get_or olds i 0)) e ∙ sym (next_rows_at before now m 0 olds i in'))

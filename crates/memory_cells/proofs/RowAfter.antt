@@ -69,7 +69,7 @@ written_below before now address i [] (p ∷ ports) x lt = rw (written_unmarked 
 written_below before now address i (mark ∷ marks) (p ∷ ports) x lt =
     rw (written_cons before now address i mark marks p ports)
     (rw (unwrap_or_else (written before now address i marks ports) (one before now address i mark p) x)
-      (written_below before now address i marks ports (unwrap_or (one before now address i mark p) x) (one_below (mark && writes_at before now address i p) (bit_at (sig_number now p.word) i) x x (bit_at-lt (sig_number now p.word) i) lt)))
+    (written_below before now address i marks ports (unwrap_or (one before now address i mark p) x) (one_below (mark && writes_at before now address i p) (bit_at (sig_number now p.word) i) x x (bit_at-lt (sig_number now p.word) i) lt)))
 
 pub digit_after_below : (before now : Digits) (address : ℕ) (marks : List Bool) (ports : List WritePort) (own i : ℕ) → digit_after before now address marks ports own i < 2
 digit_after_below before now address marks ports own i = written_below before now address i marks ports (bit_at own i) (bit_at-lt own i)

@@ -41,15 +41,15 @@ pub parts_set : (size w old new place row : ℕ) → place < size → row < 2 ^ 
 parts_set size w old new place row there below bits =
     same_number_lists (parts w size new) (set (parts w size old) place row) (length-parts w size new ∙ sym (length-parts w size old) ∙ sym (length-set (parts w size old) place row))
     (λ i in'. let lt : i < size = omega (arith, length-parts w size new) in
-      part_at w size new i lt ∙ elim (cases_eq i place) [
-        | inl e ↦
-            (ap (λ k. new / 2 ^ (k * w) % 2 ^ w) e ∙ own_part old new (place * w) w row below bits
-             ∙ sym (get_or-set_same (parts w size old) place row 0 (omega (arith, length-parts w size old)))
-             ∙ ap (λ k. get_or (set (parts w size old) place row) k 0) (sym e))
-        | inr ne ↦
-            (same_part old new (i * w) w (λ j in-row. other_digit old new place w row i j bits ne in-row)
-             ∙ sym (part_at w size old i lt) ∙ sym (get_or-set_other (parts w size old) place i row 0 ne))
-      ])
+    part_at w size new i lt ∙ elim (cases_eq i place) [
+      | inl e ↦
+          (ap (λ k. new / 2 ^ (k * w) % 2 ^ w) e ∙ own_part old new (place * w) w row below bits
+          ∙ sym (get_or-set_same (parts w size old) place row 0 (omega (arith, length-parts w size old)))
+          ∙ ap (λ k. get_or (set (parts w size old) place row) k 0) (sym e))
+      | inr ne ↦
+          (same_part old new (i * w) w (λ j in-row. other_digit old new place w row i j bits ne in-row)
+          ∙ sym (part_at w size old i lt) ∙ sym (get_or-set_other (parts w size old) place i row 0 ne))
+    ])
 
 -- ---- whether the part is the same
 

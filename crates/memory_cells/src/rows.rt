@@ -1,6 +1,7 @@
 //! The rows of one memory.
 ghost use Rattle.std.specs.Prelude.{◌≡◌, ◌+◌, ◌*◌, ◌/◌, ◌%◌, ◌^◌, ◌<◌, ◌≤◌, ◌==◌, IfOk, length, slice_index};
 ghost use Rattle.sim_base.specs.BitValue.{bit_value};
+ghost use Rattle.circuit.specs.Run.{parts};
 ghost use Rattle.memory_cells.specs.Rows.{start_rows};
 
 use circuit::Mem;
@@ -78,10 +79,21 @@ impl Rows {
 }
 
 /// Copies the bits from `at` on.
-pub(crate) fn read_row(rows: &Bits, at: u32, into: &mut Bits)
+fn read_row(rows: &Bits, at: u32, into: &mut Bits)
     requires inside { at + into.old.width ≤ rows.now.width }
     ensures { into.new ≡ bit_value into.old.width (rows.now.number / 2 ^ at % 2 ^ into.old.width) }
 {
     let width = into.width();
     into.copy(0, rows, at, width);
+}
+
+/// Copies the row at a place.
+pub(crate) fn read_place(mem: &Mem, place: u32, rows: &Bits, row: &mut Bits)
+    requires there { place < mem.now.size }
+    requires rows { rows.now.width ≡ mem.now.size * mem.now.width }
+    requires row { row.old.width ≡ mem.now.width }
+    ensures { row.new ≡ bit_value mem.now.width (slice_index (parts mem.now.width mem.now.size rows.now.number) place) }
+{
+    let _ = rows.width();
+    read_row(rows, place * mem.width, row);
 }

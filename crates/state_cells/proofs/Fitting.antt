@@ -16,17 +16,17 @@ use Rattle.signal_words.specs.Values.{AreInside, IsSignalOf}
 use Rattle.state_cells.specs.Registers.{HasWidths, IsRegisterOf}
 use Rattle.state_cells.specs.Diagnostics.{IsDiagnosticOf, IsTriggerOf, MayTrigger}
 
-le_from : (m n : ℕ) → nat_le m n ≡ true → m ≤ n
+pub le_from : (m n : ℕ) → nat_le m n ≡ true → m ≤ n
 le_from m n e = grind (arith, nat_tests)
 
-eq_from : (m n : ℕ) → (m == n) ≡ true → m ≡ n
+pub eq_from : (m n : ℕ) → (m == n) ≡ true → m ≡ n
 eq_from m n e = grind (arith, nat_tests)
 
 -- signals that fit the circuit lie inside the nets of the store
 abbrev pub LieIn : Circuit → Store → Type 0
 LieIn c store = (sig : List Piece) → sig_fits c sig ≡ true → IsSignalOf store.nets sig
 
-sig_there : (c : Circuit) (width : ℕ) (sig : List Piece) → sig_of c width sig ≡ true → (sig_fits c sig ≡ true) × (sig_width sig ≡ width)
+pub sig_there : (c : Circuit) (width : ℕ) (sig : List Piece) → sig_of c width sig ≡ true → (sig_fits c sig ≡ true) × (sig_width sig ≡ width)
 sig_there c width sig e = let t = and_parts (sig_fits c sig) (sig_width sig == width) e in (t.0, eq_from (sig_width sig) width t.1)
 
 -- the tests of a register's ports, one by one

@@ -4,4 +4,4 @@ pub mod Same
 pub mod Overlaid
 mod Chosen
 mod Edges
-mod Fitting
+pub mod Fitting

@@ -6,7 +6,7 @@ use Rattle.sim_base.specs.BitValue.{BitValue}
 use Rattle.signal_words.specs.Values.{digits_in, numbers}
 use Rattle.memory_cells.specs.Ports.{stored}
 use Rattle.memory_cells.specs.Rows.{RowValues}
-use Rattle.memory_cells.proofs.Parts.{KeptAs, kept_as}
+use Rattle.memory_cells.proofs.Parts.{KeptAs, kept_as, length-parts}
 use Rattle.memory_cells.proofs.Told.{same_lists}
 use Rattle.memory_cells.proofs.clock.clock_ports.Goals as goal
 
@@ -39,9 +39,9 @@ returns-clause-changed c =
     let news = c.clock_writes-written.new.rows.number in
     ap (λ x. x || c.clock_writes-written.result) c.clock_reads-read.ensures.changed
     ∙ ap (λ x. not reads || x)
-      (c.clock_writes-written.ensures.changed
-       ∙ ap (λ (xs : List ℕ). not (same_lists (parts m.width m.size news) xs)) k.rows
-       ∙ ap (λ (xs : List ℕ). not (same_lists xs c.args.rows.now.rows)) (sym (k.same news)))
+    (c.clock_writes-written.ensures.changed
+    ∙ ap (λ (xs : List ℕ). not (same_lists (parts m.width m.size news) xs)) k.rows
+    ∙ ap (λ (xs : List ℕ). not (same_lists xs c.args.rows.now.rows)) (sym (k.same news)))
     ∙ either reads (same_lists (parts c.rows.inside.width c.rows.inside.size news) c.args.rows.now.rows)
   where
     either : (a b : Bool) → (not a || not b) ≡ not (b && a)
@@ -49,3 +49,9 @@ returns-clause-changed c =
     either true false = refl
     either false true = refl
     either false false = refl
+
+pub returns-clause-rows : goal.returns-clause-rows
+returns-clause-rows c =
+    let m = c.args.mem.now in
+    let k = kept_as m c.rows.inside.size c.rows.inside.width c.rows.inside.rows.number c.args.rows.now c.rows.view_is c.requires.rows in
+    record { width = k.wide; size = length-parts c.rows.inside.width c.rows.inside.size c.clock_writes-written.new.rows.number ∙ k.many }

@@ -27,6 +27,6 @@ loop-port-preserved c =
           row_after_next_of_all (digits_in c.args.before.now) (digits_in c.args.now.now) c.args.mem.now.width (c.args.place + c.args.mem.now.offset) c.args.mem.now.writes i p c.args.row.now.number c.loop-port.row.number c.write_where.new.row.number
           lt (c.port-item.is ∙ ap (λ (xs : List WritePort). get_or xs i p) c.as_slice-port-items.ensures) c.loop-port.invariant.number
           (ap (λ (v : BitValue). v.number) c.write_where.ensures
-           ∙ ap (λ w. row_by c.is_written-written.result (sig_number (digits_in c.args.now.now) p.en) (sig_number (digits_in c.args.now.now) p.word) c.loop-port.row.number w) c.loop-port.invariant.width
-           ∙ ap (λ b. row_by b (sig_number (digits_in c.args.now.now) p.en) (sig_number (digits_in c.args.now.now) p.word) c.loop-port.row.number c.args.mem.now.width) c.is_written-written.ensures);
+          ∙ ap (λ w. row_by c.is_written-written.result (sig_number (digits_in c.args.now.now) p.en) (sig_number (digits_in c.args.now.now) p.word) c.loop-port.row.number w) c.loop-port.invariant.width
+          ∙ ap (λ b. row_by b (sig_number (digits_in c.args.now.now) p.en) (sig_number (digits_in c.args.now.now) p.word) c.loop-port.row.number c.args.mem.now.width) c.is_written-written.ensures);
     }

@@ -28,6 +28,6 @@ loop-i-preserved c =
           row_after_next (digits_in c.args.before.now) (digits_in c.args.now.now) c.args.mem.now.width (c.args.place + c.args.mem.now.offset) c.args.marks.now c.args.mem.now.writes i p c.args.row.now.number c.loop-i.row.number c.write_where.new.row.number
           c.requires.marks lt (c.port-item.is ∙ ap (λ (xs : List WritePort). get_or xs i p) c.as_slice-port-items.ensures) c.loop-i.invariant.number
           (ap (λ (v : BitValue). v.number) c.write_where.ensures
-           ∙ ap (λ w. row_by (mark && c.is_written-written.result) (sig_number (digits_in c.args.now.now) p.en) (sig_number (digits_in c.args.now.now) p.word) c.loop-i.row.number w) c.loop-i.invariant.width
-           ∙ ap (λ b. row_by (mark && b) (sig_number (digits_in c.args.now.now) p.en) (sig_number (digits_in c.args.now.now) p.word) c.loop-i.row.number c.args.mem.now.width) c.is_written-written.ensures);
+          ∙ ap (λ w. row_by (mark && c.is_written-written.result) (sig_number (digits_in c.args.now.now) p.en) (sig_number (digits_in c.args.now.now) p.word) c.loop-i.row.number w) c.loop-i.invariant.width
+          ∙ ap (λ b. row_by (mark && b) (sig_number (digits_in c.args.now.now) p.en) (sig_number (digits_in c.args.now.now) p.word) c.loop-i.row.number c.args.mem.now.width) c.is_written-written.ensures);
     }

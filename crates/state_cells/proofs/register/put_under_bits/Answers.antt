@@ -56,7 +56,7 @@ returns-clause-value c = λ before.
     let set = sig_number (digits_in c.args.nets.now) c.args.reg.now.set in
     let input = sig_number (digits_in c.args.nets.now) c.args.reg.now.d in
     let width : c.width-width.result ≡ c.args.reg.now.width = c.width-width.ensures.value ∙ c.requires.width in
-    placed_whole c.loop-at.into _ c.args.into.now.number c.args.reg.now.width c.loop-at.at 
+    placed_whole c.loop-at.into _ c.args.into.now.number c.args.reg.now.width c.loop-at.at
     (c.loop-at.invariant.width ∙ width) c.loop-at.invariant.below
     (whole_below c.args.reg.now.pol.clr c.args.reg.now.pol.set clr set (cond c.args.from_input input c.args.into.now.number) c.args.reg.now.width)
     (omega (arith, c.loop-at-test.false, width)) c.loop-at.invariant.written.placed

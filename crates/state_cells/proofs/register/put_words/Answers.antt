@@ -28,7 +28,7 @@ loop-at-preserved c = record {
 
 pub returns-clause-value : goal.returns-clause-value
 returns-clause-value c =
-    placed_whole c.loop-at.into (sig_number (digits_in c.args.nets.now) c.args.sig.now) c.args.into.now.number (sig_width c.args.sig.now) c.loop-at.at 
+    placed_whole c.loop-at.into (sig_number (digits_in c.args.nets.now) c.args.sig.now) c.args.into.now.number (sig_width c.args.sig.now) c.loop-at.at
     (c.loop-at.invariant.width ∙ c.sig_width-width.ensures.value) c.loop-at.invariant.below (c.sig_width-width.ensures.below c.args.nets.now) (omega (arith, c.loop-at-test.false, c.sig_width-width.ensures.value)) c.loop-at.invariant.written.placed
 
 pub returns-clause-changed : goal.returns-clause-changed

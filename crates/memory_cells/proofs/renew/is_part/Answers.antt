@@ -1,13 +1,13 @@
 use Rattle.std.proofs.Common.{◌≡◌, ◌≤◌, ◌+◌, ◌/◌, ◌%◌, ◌^◌, ◌<◌, ℕ, sym, ◌∙◌, ap, subst, arith}
 use Rattle.std.proofs.lemmas.Bool.{eq-eqb, ne_eqb}
 use Rattle.memory_cells.proofs.SetPart.{same_none, same_more, same_whole, part_differs}
-use Rattle.memory_cells.proofs.clock.is_part.Goals as goal
+use Rattle.memory_cells.proofs.renew.is_part.Goals as goal
 
 pub returns-then-field : goal.returns-then-field
 returns-then-field c =
     sym (ne_eqb _ _ (part_differs c.args.rows.now.number c.args.at c.args.row.now.number c.args.row.now.width c.loop-done.done c.min-n.result
-        (omega (arith, c.min-n.ensures, c.loop-done-test.true, c.width-width.ensures.value))
-        (λ e. c.if-field.true (c.field.ensures ∙ e ∙ sym c.field-in-loop-done.ensures))))
+    (omega (arith, c.min-n.ensures, c.loop-done-test.true, c.width-width.ensures.value))
+    (λ e. c.if-field.true (c.field.ensures ∙ e ∙ sym c.field-in-loop-done.ensures))))
 
 pub loop-done-preserved : goal.loop-done-preserved
 loop-done-preserved c = record {
@@ -18,4 +18,4 @@ loop-done-preserved c = record {
 pub returns : goal.returns
 returns c =
     sym (eq-eqb _ _ (same_whole c.args.rows.now.number c.args.at c.args.row.now.number c.args.row.now.width c.loop-done.done c.width-width.ensures.below
-        (omega (arith, c.loop-done-test.false, c.width-width.ensures.value)) c.loop-done.invariant.same))
+    (omega (arith, c.loop-done-test.false, c.width-width.ensures.value)) c.loop-done.invariant.same))

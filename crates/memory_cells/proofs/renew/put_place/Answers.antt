@@ -5,7 +5,7 @@ use Rattle.circuit.specs.Run.{parts}
 use Rattle.memory_cells.proofs.Parts.{length-parts, part_at}
 use Rattle.memory_cells.proofs.SetPart.{parts_set}
 use Rattle.memory_cells.proofs.Told.{same_lists, told_one, eqb_other_way}
-use Rattle.memory_cells.proofs.clock.put_place.Goals as goal
+use Rattle.memory_cells.proofs.renew.put_place.Goals as goal
 
 pub returns-clause-rows : goal.returns-clause-rows
 returns-clause-rows c =
@@ -22,8 +22,8 @@ returns-clause-changed c =
     let old = parts w c.args.mem.now.size c.args.rows.now.number in
     let own : get_or old c.args.place 0 ≡ c.args.rows.now.number / 2 ^ (c.args.place * w) % 2 ^ w = part_at w c.args.mem.now.size c.args.rows.now.number c.args.place c.requires.there in
     ap not (c.is_part-changed.ensures
-      ∙ ap (λ n. eqb (c.args.rows.now.number / 2 ^ (c.args.place * w) % 2 ^ n) c.args.row.now.number) c.requires.row
-      ∙ ap (λ n. eqb n c.args.row.now.number) (sym own)
-      ∙ eqb_other_way (get_or old c.args.place 0) c.args.row.now.number
-      ∙ sym (told_one old c.args.place c.args.row.now.number (omega (arith, length-parts w c.args.mem.now.size c.args.rows.now.number, c.requires.there)))
-      ∙ ap (λ (xs : List ℕ). same_lists xs old) (sym (returns-clause-rows c)))
+    ∙ ap (λ n. eqb (c.args.rows.now.number / 2 ^ (c.args.place * w) % 2 ^ n) c.args.row.now.number) c.requires.row
+    ∙ ap (λ n. eqb n c.args.row.now.number) (sym own)
+    ∙ eqb_other_way (get_or old c.args.place 0) c.args.row.now.number
+    ∙ sym (told_one old c.args.place c.args.row.now.number (omega (arith, length-parts w c.args.mem.now.size c.args.rows.now.number, c.requires.there)))
+    ∙ ap (λ (xs : List ℕ). same_lists xs old) (sym (returns-clause-rows c)))

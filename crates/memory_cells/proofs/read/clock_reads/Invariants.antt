@@ -2,7 +2,7 @@ use Rattle.std.proofs.Common.{◌≡◌}
 use Rattle.circuit.specs.Run.{parts}
 use Rattle.signal_words.specs.Values.{digits_in}
 use Rattle.memory_cells.proofs.ReadAfter.{OutsMore}
-use Rattle.memory_cells.proofs.clock.clock_reads.Given as goal
+use Rattle.memory_cells.proofs.read.clock_reads.Given as goal
 
 abbrev pub invariant-loop-i : goal.invariant-loop-i
 invariant-loop-i l = record {

@@ -1,6 +1,6 @@
 use Rattle.std.proofs.Common.{◌-◌, ◌≤◌}
 use Rattle.memory_cells.proofs.SetPart.{SameUpTo}
-use Rattle.memory_cells.proofs.clock.is_part.Given as goal
+use Rattle.memory_cells.proofs.renew.is_part.Given as goal
 
 abbrev pub invariant-loop-done : goal.invariant-loop-done
 invariant-loop-done l = record {

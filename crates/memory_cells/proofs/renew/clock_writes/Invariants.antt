@@ -2,7 +2,7 @@ use Rattle.std.proofs.Common.{◌≡◌}
 use Rattle.circuit.specs.Run.{parts}
 use Rattle.signal_words.specs.Values.{digits_in}
 use Rattle.memory_cells.proofs.Renewed.{RowsAfter}
-use Rattle.memory_cells.proofs.clock.clock_writes.Given as goal
+use Rattle.memory_cells.proofs.renew.clock_writes.Given as goal
 
 abbrev pub invariant-loop-port : goal.invariant-loop-port
 invariant-loop-port l = record {

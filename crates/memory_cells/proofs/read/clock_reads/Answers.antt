@@ -5,7 +5,7 @@ use Rattle.sim_base.specs.BitValue.{BitValue}
 use Rattle.signal_words.specs.Values.{digits_in, numbers}
 use Rattle.memory_cells.proofs.Told.{told_none}
 use Rattle.memory_cells.proofs.ReadAfter.{out_wide, outs_more, outs_whole, reads_none}
-use Rattle.memory_cells.proofs.clock.clock_reads.Goals as goal
+use Rattle.memory_cells.proofs.read.clock_reads.Goals as goal
 
 pub loop-i-init : goal.loop-i-init
 loop-i-init c = record {

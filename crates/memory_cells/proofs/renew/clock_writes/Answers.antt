@@ -5,7 +5,7 @@ use Rattle.signal_words.specs.Values.{digits_in}
 use Rattle.memory_cells.specs.Ports.{renewed_rows}
 use Rattle.memory_cells.proofs.Parts.{length-parts, part_below}
 use Rattle.memory_cells.proofs.Renewed.{rows_after_none, rows_after_more, rows_whole}
-use Rattle.memory_cells.proofs.clock.clock_writes.Goals as goal
+use Rattle.memory_cells.proofs.renew.clock_writes.Goals as goal
 
 pub loop-port-preserved : goal.loop-port-preserved
 loop-port-preserved c =
