@@ -5,3 +5,4 @@ pub mod Overlaid
 mod Chosen
 mod Edges
 pub mod Fitting
+mod StoresWritten
