@@ -1,0 +1,13 @@
+use Rattle.std.proofs.Common.{◌≡◌, List, ◌++◌, ◌∷◌, [], set, sym, ap, ◌∙◌, subst}
+use Rattle.driver_check.specs.Search.{IsSearch}
+use Rattle.driver_check.specs.declared.search.Frame.{Frame}
+use Rattle.driver_check.specs.declared.search.Mark.TheVariants as mark
+use Rattle.driver_check.proofs.Steps.{grown, new_frame}
+use Rattle.driver_check.proofs.search.Search.enter.Goals as goal
+
+pub returns-clause-search : goal.returns-clause-search
+returns-clause-search c = λ rows was need new.
+    let stack : c.push-2.new.self.items ≡ c.args.self.now.stack.items ++ c.args.frame ∷ [] ++ new_frame c.args.vertex ∷ [] =
+    c.in_ok-push-2.ensures.items ∙ ap (λ (xs : List Frame). xs ++ new_frame c.args.vertex ∷ []) c.in_ok-push.ensures.items in
+    subst (λ (xs : List Frame). IsSearch rows (set c.args.self.now.marks.items c.args.vertex mark.Open) c.args.self.now.order.items xs) (sym stack)
+    (grown rows c.args.self.now.marks.items c.args.self.now.order.items c.args.self.now.stack.items c.args.frame was c.args.vertex need new)

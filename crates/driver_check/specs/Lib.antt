@@ -1,0 +1,4 @@
+pub mod Depends
+pub mod Faults
+pub mod Ordered
+pub mod Search
