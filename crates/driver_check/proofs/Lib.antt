@@ -1,2 +1,5 @@
 pub mod Places
 pub mod Steps
+pub mod Numbered
+pub mod Parts
+pub mod Owned

@@ -1,5 +1,7 @@
 -- Elements of lists by their places.
-use Rattle.std.proofs.Common.{◌≡◌, ◌≢◌, ℕ, zero, suc, ◌+◌, ◌-◌, ◌<◌, ◌≤◌, ◌⊎◌, List, [], ◌∷◌, ◌++◌, length, take, drop, set, refl, sym, ◌∙◌, ap, subst, arith, inl, inr, Option, Some, None, get_or, length-set}
+use Rattle.std.proofs.Common.{◌≡◌, ◌≢◌, ℕ, zero, suc, ◌+◌, ◌-◌, ◌<◌, ◌≤◌, ◌⊎◌, List, [], ◌∷◌, ◌++◌, length, take, drop, set, refl, sym, ◌∙◌, ap, subst, arith, inl, inr, Option, Some, None, get_or, length-set, length-append}
+use Rattle.std.proofs.lemmas.List.{get_or_append_left}
+use Rattle.std.proofs.Math.Seq.{get_or-append_seam}
 use Rattle.std.specs.Prelude.{slice_get, slice_index}
 use Rattle.std.proofs.lemmas.Bool.{cases_eq, cases_lt}
 
@@ -62,3 +64,12 @@ pub read : {X : Type 0} (xs : List X) (i : ℕ) (x : X) → i < length xs → x 
 read [] i x lt e = absurd (let h : i < 0 = lt in omega arith)
 read (y ∷ xs) zero x lt e = let h : x ≡ y = e in ap (λ (z : _). Some z) (sym h)
 read (y ∷ xs) (suc i) x lt e = read xs i x (let h : suc i < suc (length xs) = lt in omega arith) e
+
+pub index_kept : (xs : List ℕ) (x i : ℕ) → i < length xs → slice_index (xs ++ x ∷ []) i ≡ slice_index xs i
+index_kept xs x i lt = get_or_append_left xs (x ∷ []) 0 i lt
+
+pub index_last : (xs : List ℕ) (x i : ℕ) → i ≡ length xs → slice_index (xs ++ x ∷ []) i ≡ x
+index_last xs x i e = ap (slice_index (xs ++ x ∷ [])) e ∙ get_or-append_seam xs x [] 0
+
+pub length_pushed : {X : Type 0} (xs ys : List X) (x : X) → ys ≡ xs ++ x ∷ [] → length ys ≡ length xs + 1
+length_pushed xs ys x e = ap length e ∙ length-append xs (x ∷ [])

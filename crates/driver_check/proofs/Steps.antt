@@ -392,4 +392,4 @@ not_new marks v was new = elim (was_set marks v v mark.Open mark.New new) [
 ]
 
 pub frames_inside : (row : Rows) (marks : List Mark) (order : List ℕ) (stack : List Frame) → IsSearch row marks order stack → AreFramesInside marks stack
-frames_inside row marks order stack was k f e = within marks f.vertex mark.Open (was.frames k f e)
+frames_inside row marks order frames was k f e = within marks f.vertex mark.Open (was.frames k f e)

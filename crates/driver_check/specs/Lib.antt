@@ -2,3 +2,5 @@ pub mod Depends
 pub mod Faults
 pub mod Ordered
 pub mod Search
+pub mod Numbers
+pub mod Owners

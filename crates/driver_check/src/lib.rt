@@ -1,7 +1,9 @@
 //! The drives of a circuit, checked and put in order.
 #![tactic(auto)]
 
+mod drivers;
 mod graph;
+mod numbering;
 mod plan;
 mod search;
 

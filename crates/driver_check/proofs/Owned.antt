@@ -1,0 +1,172 @@
+-- The drive of each bit, drive by drive.
+use Rattle.std.proofs.Common.{◌≡◌, ◌≢◌, ℕ, zero, suc, ◌+◌, ◌-◌, ◌<◌, ◌≤◌, ◌⊎◌, List, [], ◌∷◌, length, refl, sym, ◌∙◌, ap, subst, arith, inl, inr, Bool, true, false, cond, ◌&&◌, Some, nat_eq, nat_le, nat_lt}
+use Rattle.std.specs.Prelude.{slice_get, slice_index, ◌==◌}
+use Rattle.std.proofs.lemmas.Bool.{cases_Bool, cases_eq, cases_lt, and_parts, and_from, eqb-true, eq-eqb, leb-true, le-leb, ltb-true, lt-ltb, cond-true, cond-false}
+use Rattle.circuit.specs.Free.{AreDrivesInside}
+use Rattle.circuit.specs.Valuation.{covers}
+use Rattle.circuit.specs.declared.netlist.Circuit.{Circuit}
+use Rattle.circuit.specs.declared.netlist.Drive.{Drive}
+use Rattle.circuit.specs.declared.netlist.Net.{Net}
+use Rattle.driver_check.specs.Depends.{Bit, IsBefore}
+use Rattle.driver_check.specs.Faults.{Covers, IsFirstShared, IsShared}
+use Rattle.driver_check.specs.Numbers.{before, bit_count, IsBit, IsIn, number_of, start_of, width_of}
+use Rattle.driver_check.specs.Owners.{AreOwners, IsLeastShared, IsNextCover, IsOwner}
+use Rattle.driver_check.proofs.Places.{same, within}
+use Rattle.driver_check.proofs.Numbered.{before_later, bit_below, number_once, number_order}
+
+-- ---- the bits of a drive
+
+pub covers_parts : (d : Drive) (net bit : ℕ) → covers net bit d ≡ true → (d.net ≡ net) × (d.at ≤ bit) × (bit < d.at + d.width)
+covers_parts d net bit h =
+    let p = and_parts (nat_eq d.net net) (nat_le d.at bit && nat_lt bit (d.at + d.width)) h in
+    let q = and_parts (nat_le d.at bit) (nat_lt bit (d.at + d.width)) p.1 in
+    (eqb-true d.net net p.0, leb-true d.at bit q.0, ltb-true bit (d.at + d.width) q.1)
+
+pub covers_from : (d : Drive) (net bit : ℕ) → d.net ≡ net → d.at ≤ bit → bit < d.at + d.width → covers net bit d ≡ true
+covers_from d net bit e le lt =
+    and_from (nat_eq d.net net) (nat_le d.at bit && nat_lt bit (d.at + d.width)) (eq-eqb d.net net e)
+    (and_from (nat_le d.at bit) (nat_lt bit (d.at + d.width)) (le-leb d.at bit le) (lt-ltb bit (d.at + d.width) lt))
+
+pub covers_in : (c : Circuit) (d : Drive) (x : Bit) → covers x.0 x.1 d ≡ true → IsIn (start_of c.nets d) d.width (number_of c.nets x)
+covers_in c d x h =
+    let p = covers_parts d x.0 x.1 h in
+    let e : before width_of c.nets d.net ≡ before width_of c.nets x.0 = ap (before width_of c.nets) p.0 in
+    (omega (arith, e, p.1), omega (arith, e, p.2))
+
+-- the bit of a drive that has a number
+pub bit_in : (c : Circuit) → AreDrivesInside c → (i : ℕ) (d : Drive) → slice_get c.drives i ≡ Some d → (v : ℕ) → IsIn (start_of c.nets d) d.width v
+    → (x : Bit) × IsBit c.nets x × (covers x.0 x.1 d ≡ true) × (number_of c.nets x ≡ v)
+bit_in c inside i d at v h =
+    let n = inside i d at in
+    let bit = v - before width_of c.nets d.net in
+    ((d.net, bit), (n.0, n.1, omega (arith, n.2, h.0, h.1)), covers_from d d.net bit refl (omega (arith, h.0)) (omega (arith, h.0, h.1)), omega (arith, h.0))
+
+pub in_covers : (c : Circuit) → AreDrivesInside c → (i : ℕ) (d : Drive) → slice_get c.drives i ≡ Some d → (x : Bit) → IsBit c.nets x → IsIn (start_of c.nets d) d.width (number_of c.nets x) → covers x.0 x.1 d ≡ true
+in_covers c inside i d at x b h =
+    let y = bit_in c inside i d at (number_of c.nets x) h in
+    let s = number_once c.nets y.0 x y.1 b y.3 in
+    subst (λ (n : ℕ). covers n x.1 d ≡ true) s.0 (subst (λ (n : ℕ). covers y.0.0 n d ≡ true) s.1 y.2)
+
+pub covered_is_bit : (c : Circuit) → AreDrivesInside c → (i : ℕ) (x : Bit) → Covers c i x → IsBit c.nets x
+covered_is_bit c inside i x h =
+    let n = inside i h.0 h.1 in
+    let p = covers_parts h.0 x.0 x.1 h.2 in
+    (n.0, subst (λ (k : ℕ). slice_get c.nets k ≡ Some n.0) p.0 n.1, omega (arith, p.2, n.2))
+
+-- ---- owners
+
+-- the test by which a drive gets a bit
+abbrev taken : ℕ → ℕ → ℕ → ℕ → ℕ → Bool
+taken first width nobody owner v = (nat_le first v && nat_lt v (first + width)) && owner == nobody
+
+pub no_owners : (c : Circuit) (owners : List ℕ) → ((v : ℕ) → v < bit_count c.nets → slice_index owners v ≡ length c.drives) → AreOwners c 0 owners
+no_owners c owners h x b = inr (h (number_of c.nets x) (bit_below c.nets x b), λ k lt cov. absurd (omega (arith, lt)))
+
+module _ (c : Circuit) (inside : AreDrivesInside c) (i : ℕ) (d : Drive) (at : slice_get c.drives i ≡ Some d) (x : Bit) (b : IsBit c.nets x) (owner : ℕ) (was : IsOwner c i x owner) where
+  abbrev v : ℕ
+  v = number_of c.nets x
+
+  abbrev test : Bool
+  test = taken (start_of c.nets d) d.width (length c.drives) owner v
+
+  owner_taken : test ≡ true → IsOwner c (i + 1) x i
+  owner_taken on =
+      let p = and_parts (nat_le (start_of c.nets d) v && nat_lt v (start_of c.nets d + d.width)) (owner == length c.drives) on in
+      let q = and_parts (nat_le (start_of c.nets d) v) (nat_lt v (start_of c.nets d + d.width)) p.0 in
+      let free = eqb-true owner (length c.drives) p.1 in
+      let cov = in_covers c inside i d at x b (leb-true (start_of c.nets d) v q.0, ltb-true v (start_of c.nets d + d.width) q.1) in
+      inl (omega arith, (d, at, cov), elim was [
+        | inl o ↦ absurd (let t = within c.drives owner o.1.0 o.1.1 in omega (arith, t, free))
+        | inr o ↦ o.1
+      ])
+
+  owner_stays : test ≡ false → IsOwner c (i + 1) x owner
+  owner_stays off = elim was [
+    | inl o ↦ inl (omega (arith, o.0), o.1, o.2)
+    | inr o ↦ inr (o.0, λ k lt cov. elim (cases_eq k i) [
+        | inl e ↦
+            (let same_drive : cov.0 ≡ d = same c.drives i cov.0 d (subst (λ (n : ℕ). slice_get c.drives n ≡ Some cov.0) e cov.1) at in
+            let here : covers x.0 x.1 d ≡ true = sym (ap (covers x.0 x.1) same_drive) ∙ cov.2 in
+            let h = covers_in c d x here in
+            let on : test ≡ true =
+            and_from (nat_le (start_of c.nets d) v && nat_lt v (start_of c.nets d + d.width)) (owner == length c.drives)
+            (and_from (nat_le (start_of c.nets d) v) (nat_lt v (start_of c.nets d + d.width)) (le-leb (start_of c.nets d) v h.0) (lt-ltb v (start_of c.nets d + d.width) h.1))
+            (eq-eqb owner (length c.drives) o.0) in
+            let z : true ≡ false = sym on ∙ off in cc z)
+        | inr ne ↦ o.1 k (omega (arith, lt, ne)) cov
+      ])
+  ]
+
+  owner_more : IsOwner c (i + 1) x (cond test i owner)
+  owner_more = elim (cases_Bool test) [
+    | inl on ↦ subst (λ (o : ℕ). IsOwner c (i + 1) x o) (sym (cond-true test i owner on)) (owner_taken on)
+    | inr off ↦ subst (λ (o : ℕ). IsOwner c (i + 1) x o) (sym (cond-false test i owner off)) (owner_stays off)
+  ]
+
+pub owners_more : (c : Circuit) → AreDrivesInside c → (i : ℕ) (d : Drive) → slice_get c.drives i ≡ Some d → (owners after : List ℕ) → AreOwners c i owners
+    → ((v : ℕ) → slice_index after v ≡ cond (taken (start_of c.nets d) d.width (length c.drives) (slice_index owners v) v) i (slice_index owners v))
+    → AreOwners c (i + 1) after
+owners_more c inside i d at owners after were is x b =
+    subst (λ (o : ℕ). IsOwner c (i + 1) x o) (sym (is (number_of c.nets x)))
+    (owner_more c inside i d at x b (slice_index owners (number_of c.nets x)) (were x b))
+
+-- ---- the least bit with two drives
+
+module _ (c : Circuit) (inside : AreDrivesInside c) (owners : List ℕ) (are : AreOwners c (length c.drives) owners) where
+  -- the owner of a bit that a drive covers is no later one
+  pub owner_first : (i : ℕ) (x : Bit) → Covers c i x → (slice_index owners (number_of c.nets x) ≤ i) × Covers c (slice_index owners (number_of c.nets x)) x × ((k : ℕ) → k < slice_index owners (number_of c.nets x) → Covers c k x → ⊥)
+  owner_first i x cov = elim (are x (covered_is_bit c inside i x cov)) [
+    | inl o ↦ elim (cases_lt i (slice_index owners (number_of c.nets x))) [
+        | inl lt ↦ absurd (o.2 i lt cov)
+        | inr le ↦ (le, o.1, o.2)
+      ]
+    | inr o ↦ absurd (o.1 i (within c.drives i cov.0 cov.1) cov)
+  ]
+
+  pub none_shared : (bits : ℕ) → IsLeastShared c 0 bits bits
+  none_shared bits = record {
+    most = omega arith;
+    below = λ x j b lt cov k less also. absurd (omega (arith, lt));
+    is = inl refl;
+  }
+
+  pub shared_more : (i : ℕ) (d : Drive) → slice_get c.drives i ≡ Some d → (bits least after : ℕ) → IsLeastShared c i least bits
+      → after ≤ least
+      → ((v : ℕ) → IsIn (start_of c.nets d) d.width v → slice_index owners v ≢ i → after ≤ v)
+      → (after ≡ least) ⊎ (IsIn (start_of c.nets d) d.width after × (slice_index owners after ≢ i))
+      → IsLeastShared c (i + 1) after bits
+  shared_more i d at bits least after was most below is = record {
+    most = omega (arith, most, was.most);
+    below = λ x j b lt cov k less also. elim (cases_eq j i) [
+      | inl e ↦
+          (let same_drive : cov.0 ≡ d = same c.drives i cov.0 d (subst (λ (n : ℕ). slice_get c.drives n ≡ Some cov.0) e cov.1) at in
+          let here : covers x.0 x.1 d ≡ true = sym (ap (covers x.0 x.1) same_drive) ∙ cov.2 in
+          below (number_of c.nets x) (covers_in c d x here) (λ owned. let o = owner_first k x also in omega (arith, o.0, owned, less, e)))
+      | inr ne ↦ (let h = was.below x j b (omega (arith, lt, ne)) cov k less also in omega (arith, h, most))
+    ];
+    is = elim is [
+      | inl e ↦ elim was.is [ inl w ↦ inl (e ∙ w) | inr w ↦ inr (w.0, w.1, w.2, w.3 ∙ sym e) ]
+      | inr h ↦
+          (let x = bit_in c inside i d at after h.0 in
+          let o = owner_first i x.0 (d, at, x.2) in
+          let owner_ne : slice_index owners (number_of c.nets x.0) ≢ i = subst (λ (v : ℕ). slice_index owners v ≢ i) (sym x.3) h.1 in
+          inr (x.0, x.1, (slice_index owners (number_of c.nets x.0), i, omega (arith, o.0, owner_ne), o.1, (d, at, x.2)), x.3))
+    ];
+  }
+
+  -- a bit that no drives share has one drive
+  pub once : (bits : ℕ) → bits ≡ bit_count c.nets → IsLeastShared c (length c.drives) bits bits → (i j net bit : ℕ) (d e : Drive) → slice_get c.drives i ≡ Some d → slice_get c.drives j ≡ Some e → covers net bit d ≡ true → covers net bit e ≡ true → i ≡ j
+  once bits all is i j net bit d e p q cd ce = elim (cases_lt i j) [
+    | inl lt ↦ absurd (clash i j (d, p, cd) (e, q, ce) lt)
+    | inr le ↦ elim (cases_lt j i) [
+        | inl lt ↦ absurd (clash j i (e, q, ce) (d, p, cd) lt)
+        | inr ge ↦ omega (arith, le, ge)
+      ]
+  ]
+    where
+      clash : (k l : ℕ) → Covers c k (net, bit) → Covers c l (net, bit) → k < l → ⊥
+      clash k l a b lt =
+          let there = covered_is_bit c inside l (net, bit) b in
+          let h = is.below (net, bit) l there (within c.drives l b.0 b.1) b k lt a in
+          let g = bit_below c.nets (net, bit) there in
+          omega (arith, h, g, all)

@@ -1,0 +1,6 @@
+use Rattle.std.proofs.Common.{◌≡◌, length}
+use Rattle.driver_check.specs.Owners.{IsLeastShared}
+use Rattle.driver_check.proofs.drivers.least_shared.Given as goal
+
+abbrev pub invariant-loop-place : goal.invariant-loop-place
+invariant-loop-place l = IsLeastShared l.circuit l.place l.least l.numbering.bits
