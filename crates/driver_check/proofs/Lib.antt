@@ -1,5 +1,6 @@
 pub mod Places
 pub mod Steps
 pub mod Numbered
-pub mod Parts
+pub mod Fitting
 pub mod Owned
+pub mod Placed

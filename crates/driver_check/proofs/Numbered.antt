@@ -81,3 +81,16 @@ pub start_inside : (nets : List Net) (d : Drive) → IsInsideNet nets d → star
 start_inside nets d h =
     let e = before_later width_of nets d.net (length nets) h.0 h.1 (within nets d.net h.0 h.1) in
     omega (arith, e, h.2)
+
+-- each number is that of a part of one of the parts
+pub split : {X : Type 0} (size : X → ℕ) (xs : List X) (v : ℕ) → v < before size xs (length xs) → (n : ℕ) × (x : X) × (i : ℕ) × (slice_get xs n ≡ Some x) × (i < size x) × (before size xs n + i ≡ v)
+split size [] v lt = absurd (let h : v < 0 = lt in omega arith)
+split size (x ∷ xs) v lt = elim (cases_lt v (size x)) [
+  | inl less ↦ (0, x, v, refl, less, (let h : 0 + v ≡ v = omega arith in h))
+  | inr le ↦
+      (let r = split size xs (v - size x) (let h : v < size x + before size xs (length xs) = lt in omega (arith, h, le)) in
+      (suc r.0, r.1, r.2, r.3, r.4, (let h : size x + before size xs r.0 + r.2 ≡ v = omega (arith, r.5, le) in h)))
+]
+
+pub bit_at_number : (nets : List Net) (v : ℕ) → v < bit_count nets → (x : Bit) × IsBit nets x × (number_of nets x ≡ v)
+bit_at_number nets v lt = let r = split width_of nets v lt in ((r.0, r.2), (r.1, r.3, r.4), r.5)

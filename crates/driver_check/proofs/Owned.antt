@@ -170,3 +170,72 @@ module _ (c : Circuit) (inside : AreDrivesInside c) (owners : List ℕ) (are : A
           let h = is.below (net, bit) l there (within c.drives l b.0 b.1) b k lt a in
           let g = bit_below c.nets (net, bit) there in
           omega (arith, h, g, all)
+
+same_bit : (x y : Bit) → x.0 ≡ y.0 → x.1 ≡ y.1 → x ≡ y
+same_bit x y p q = subst (λ (n : ℕ). ◌≡◌ {A = Bit} x (n, y.1)) p (subst (λ (m : ℕ). ◌≡◌ {A = Bit} x (x.0, m)) q refl)
+
+pub one_bit : (nets : List Net) (x y : Bit) → IsBit nets x → IsBit nets y → number_of nets x ≡ number_of nets y → x ≡ y
+one_bit nets x y a b e = let s = number_once nets x y a b e in same_bit x y s.0 s.1
+
+module _ (c : Circuit) (inside : AreDrivesInside c) (owners : List ℕ) (are : AreOwners c (length c.drives) owners) (least bits : ℕ) (shared : IsLeastShared c (length c.drives) least bits) (some : least < bits) where
+  pub shared_bit : (x : Bit) × IsBit c.nets x × IsShared c x × (number_of c.nets x ≡ least)
+  shared_bit = elim shared.is [
+    | inl e ↦ absurd (omega (arith, e, some))
+    | inr x ↦ x
+  ]
+
+  pub shared_owner : Covers c (slice_index owners least) shared_bit.0
+  shared_owner =
+      let x = shared_bit in
+      let s = x.2 in
+      subst (λ (v : ℕ). Covers c (slice_index owners v) x.0) x.3 (owner_first c inside owners are s.0 x.0 s.3).1
+
+  pub owner_there : slice_index owners least < length c.drives
+  owner_there = let o = shared_owner in within c.drives (slice_index owners least) o.0 o.1
+
+  pub owner_covers : (d : Drive) → slice_get c.drives (slice_index owners least) ≡ Some d → IsIn (start_of c.nets d) d.width least
+  owner_covers d at =
+      let o = shared_owner in
+      let z : o.0 ≡ d = same c.drives (slice_index owners least) o.0 d o.1 at in
+      subst (λ (v : ℕ). IsIn (start_of c.nets d) d.width v) shared_bit.3
+      (covers_in c d shared_bit.0 (subst (λ (e : Drive). covers shared_bit.0.0 shared_bit.0.1 e ≡ true) z o.2))
+
+  pub first_shared : (y : Bit) → number_of c.nets y ≡ least → Covers c (slice_index owners least) y → (second : ℕ) → IsNextCover c.drives (slice_index owners least) y.0 y.1 second → IsFirstShared c y (slice_index owners least) second
+  first_shared y is cov second next = record {
+    ordered = next.behind;
+    first_covers = cov;
+    second_covers = elim next.is [
+      | inl e ↦ absurd (none e)
+      | inr h ↦ h
+    ];
+    no_other = λ i lt h. elim (cases_lt i (slice_index owners least)) [
+      | inl less ↦ absurd (no_earlier i less h)
+      | inr le ↦ elim (cases_eq i (slice_index owners least)) [
+          | inl e ↦ e
+          | inr ne ↦ absurd (let z : true ≡ false = sym h.2 ∙ next.no_other i h.0 (omega (arith, le, ne)) lt h.1 in cc z)
+        ]
+    ];
+    least = λ z also lt.
+        let there = covered_is_bit c inside also.1 z also.4 in
+        let le = shared.below z also.1 there (within c.drives also.1 also.4.0 also.4.1) also.4 also.0 also.2 also.3 in
+        number_order c.nets y z mine there (omega (arith, le, is)) lt;
+  }
+    where
+      mine : IsBit c.nets y
+      mine = covered_is_bit c inside (slice_index owners least) y cov
+
+      no_earlier : (k : ℕ) → k < slice_index owners least → Covers c k y → ⊥
+      no_earlier = subst (λ (v : ℕ). (k : ℕ) → k < slice_index owners v → Covers c k y → ⊥) is (owner_first c inside owners are (slice_index owners least) y cov).2
+
+      here : IsShared c y
+      here = subst (λ (x : Bit). IsShared c x) (one_bit c.nets shared_bit.0 y shared_bit.1 mine (shared_bit.3 ∙ sym is)) shared_bit.2
+
+      none : second ≡ length c.drives → ⊥
+      none e =
+          let j = here.1 in
+          let o = no_earlier here.0 in
+          let there = within c.drives j here.4.0 here.4.1 in
+          elim (cases_lt here.0 (slice_index owners least)) [
+            | inl less ↦ o less here.3
+            | inr le ↦ (let z : true ≡ false = sym here.4.2 ∙ next.no_other j here.4.0 (omega (arith, le, here.2)) (omega (arith, e, there)) here.4.1 in cc z)
+          ]

@@ -35,12 +35,15 @@ pub record IsFirstShared (c : Circuit) (x : Bit) (first second : ℕ) : Type 0 w
   pub no_other : (i : ℕ) → i < second → Covers c i x → i ≡ first
   pub least : (y : Bit) → IsShared c y → IsBefore y x → ⊥
 
+abbrev pub says_two_drivers : Circuit → Bit → ℕ → ℕ → DesignFault
+says_two_drivers c bit first second = record { kind = kind.TwoDrivers; place = []; bits = named c bit ∷ []; drives = first ∷ second ∷ [] }
+
 pub record SaysTwoDrivers (c : Circuit) (fault : DesignFault) : Type 0 where
   pub bit : Bit
   pub first : ℕ
   pub second : ℕ
   pub shared : IsFirstShared c bit first second
-  pub is : fault ≡ record { kind = kind.TwoDrivers; place = []; bits = named c bit ∷ []; drives = first ∷ second ∷ [] }
+  pub is : fault ≡ says_two_drivers c bit first second
 
 -- ---- a loop
 
@@ -64,9 +67,12 @@ pub record IsWalk (c : Circuit) (walk : List Bit) (again : ℕ) : Type 0 where
   pub inside : again < length walk
   pub closed : (k : ℕ) (x y : Bit) → suc k ≡ length walk → slice_get walk k ≡ Some x → slice_get walk again ≡ Some y → IsNext c x y
 
+abbrev pub says_loop : Circuit → List Bit → DesignFault
+says_loop c cycle = record { kind = kind.CombLoop; place = []; bits = map (named c) cycle; drives = [] }
+
 -- the bits of the cycle: the walk from the bit that would come twice
 pub record SaysLoop (c : Circuit) (fault : DesignFault) : Type 0 where
   pub walk : List Bit
   pub again : ℕ
   pub walked : IsWalk c walk again
-  pub is : fault ≡ record { kind = kind.CombLoop; place = []; bits = map (named c) (drop again walk); drives = [] }
+  pub is : fault ≡ says_loop c (drop again walk)

@@ -4,3 +4,4 @@ pub mod Ordered
 pub mod Search
 pub mod Numbers
 pub mod Owners
+pub mod Vertices

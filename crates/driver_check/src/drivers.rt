@@ -39,7 +39,7 @@ fn shared_within(owners: &[usize], first: usize, width: usize, place: usize, lea
 }
 
 /// The place of the first drive that covers each bit, by the number of the bit.
-fn owners(alloc: Global, circuit: &Circuit, numbering: &Numbering) -> Result<Vec<usize>, NoMemory>
+pub fn owners(alloc: Global, circuit: &Circuit, numbering: &Numbering) -> Result<Vec<usize>, NoMemory>
     requires valid { is_valid circuit.now ≡ true }
     requires numbers { IsNumbering circuit.now.nets numbering.now.firsts.items numbering.now.bits }
     ensures { IfOk result (λ owners. (length owners.items ≡ numbering.now.bits) × AreOwners circuit.now (length circuit.now.drives) owners.items) }
@@ -55,7 +55,7 @@ fn owners(alloc: Global, circuit: &Circuit, numbering: &Numbering) -> Result<Vec
 }
 
 /// The least number of a bit that two drives share, or else how many bits there are.
-fn least_shared(circuit: &Circuit, numbering: &Numbering, owners: &[usize]) -> usize
+pub fn least_shared(circuit: &Circuit, numbering: &Numbering, owners: &[usize]) -> usize
     requires valid { is_valid circuit.now ≡ true }
     requires numbers { IsNumbering circuit.now.nets numbering.now.firsts.items numbering.now.bits }
     requires length { length owners.now ≡ numbering.now.bits }
@@ -78,7 +78,7 @@ fn covers_bit(drive: &Drive, net: u32, bit: u32) -> bool
 }
 
 /// The place of the first drive behind another one that covers a bit, or else how many there are.
-fn next_cover(drives: &[Drive], first: usize, net: u32, bit: u32) -> usize
+pub fn next_cover(drives: &[Drive], first: usize, net: u32, bit: u32) -> usize
     requires { first < length drives.now }
     ensures { IsNextCover drives.now first net bit result }
 {

@@ -2,9 +2,12 @@
 #![tactic(auto)]
 
 mod drivers;
+mod faults;
 mod graph;
 mod numbering;
+mod parts;
 mod plan;
+mod rows;
 mod search;
 
 pub use plan::{Node, Plan, Sources};

@@ -5,7 +5,7 @@ use Rattle.circuit.specs.declared.netlist.Net.{Net}
 use Rattle.driver_check.specs.Numbers.{IsIn, IsInsideNet, bit_count, start_of}
 use Rattle.driver_check.specs.Owners.{IsLeastShared}
 use Rattle.driver_check.proofs.Places.{read}
-use Rattle.driver_check.proofs.Parts.{bits_bound, drives_inside}
+use Rattle.driver_check.proofs.Fitting.{bits_bound, drives_inside}
 use Rattle.driver_check.proofs.Owned.{shared_more}
 use Rattle.driver_check.proofs.drivers.least_shared.Goals as goal
 

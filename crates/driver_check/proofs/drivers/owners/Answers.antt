@@ -6,7 +6,7 @@ use Rattle.circuit.specs.declared.netlist.Net.{Net}
 use Rattle.driver_check.specs.Numbers.{IsInsideNet, start_of}
 use Rattle.driver_check.specs.Owners.{AreOwners}
 use Rattle.driver_check.proofs.Places.{read}
-use Rattle.driver_check.proofs.Parts.{drives_inside}
+use Rattle.driver_check.proofs.Fitting.{drives_inside}
 use Rattle.driver_check.proofs.Owned.{no_owners, owners_more}
 use Rattle.driver_check.proofs.drivers.owners.Goals as goal
 

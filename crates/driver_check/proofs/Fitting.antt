@@ -1,0 +1,173 @@
+-- The parts of a valid circuit.
+use Rattle.std.proofs.Common.{◌≡◌, ℕ, zero, suc, ◌+◌, ◌*◌, ◌^◌, ◌<◌, ◌≤◌, List, [], ◌∷◌, length, refl, sym, ◌∙◌, ap, subst, arith, inl, inr, Bool, true, false, ◌&&◌, Option, Some, None, nat_le, nat_lt}
+use Rattle.std.specs.Prelude.{slice_get}
+use Rattle.std.specs.List.{list_all}
+use Rattle.std.proofs.lemmas.Bool.{and_parts, leb-true, ltb-true}
+use Rattle.circuit.specs.Free.{AreDrivesInside}
+use Rattle.circuit.specs.Valid.{cell_fits, counts_fit, diag_fits, drive_fits, driver_fits, address_width, inputs_fit, is_countable, is_valid, item_fits, mem_fits, names_differ, names_rise, net_holds, piece_fits, reaches, read_fits, register_fits, sig_fits, sig_of, widths_fit, widths_of, write_fits, scope_fits, slot_count, slots_run, widest}
+use Rattle.std.specs.List.{list_any}
+use Rattle.std.specs.Prelude.{◌==◌}
+use Rattle.circuit.specs.Signal.{Reads, sig_width}
+use Rattle.circuit.specs.Output.{ReadsBit}
+use Rattle.circuit.specs.declared.netlist.Circuit.{Circuit}
+use Rattle.circuit.specs.declared.netlist.Drive.{Drive}
+use Rattle.circuit.specs.declared.netlist.Net.{Net}
+use Rattle.circuit.specs.declared.cell.Cell.{Cell}
+use Rattle.circuit.specs.declared.memory.Mem.{Mem}
+use Rattle.circuit.specs.declared.memory.ReadPort.{ReadPort}
+use Rattle.circuit.specs.declared.netlist.Piece.{Piece}
+use Rattle.circuit.specs.declared.netlist.Piece.TheVariants as piece
+use Rattle.driver_check.specs.Numbers.{IsBit, before, width_of}
+use Rattle.driver_check.proofs.Numbered.{before_bound}
+
+pub all_at : {X : Type 0} (p : X → Bool) (xs : List X) → list_all p xs ≡ true → (i : ℕ) (x : X) → slice_get xs i ≡ Some x → p x ≡ true
+all_at p [] h i x e = cc e
+all_at p (y ∷ ys) h zero x e =
+    let z : y ≡ x = let g : Some y ≡ Some x = e in cc g in
+    ap p (sym z) ∙ (and_parts (p y) (list_all p ys) h).0
+all_at p (y ∷ ys) h (suc i) x e = all_at p ys (and_parts (p y) (list_all p ys) h).1 i x e
+
+pub holds_net : (c : Circuit) (net end : ℕ) → net_holds c net end ≡ true → (x : Net) × (slice_get c.nets net ≡ Some x) × (end ≤ x.width)
+holds_net c net end h = held (slice_get c.nets net) refl
+  where
+    held : (o : Option Net) → slice_get c.nets net ≡ o → (x : Net) × (slice_get c.nets net ≡ Some x) × (end ≤ x.width)
+    held None is = absurd (let z : false ≡ true = sym (ap (reaches end) is) ∙ h in cc z)
+    held (Some x) is = (x, is, leb-true end x.width (sym (ap (reaches end) is) ∙ h))
+
+module _ (c : Circuit) where
+  pieces_bits : (ps : List Piece) → list_all (piece_fits c) ps ≡ true → (net bit : ℕ) → Reads ps net bit → IsBit c.nets (net, bit)
+  unfolding Reads
+  pieces_bits [] h net bit r = absurd r
+  pieces_bits (piece.Const v ∷ ps) h net bit r = pieces_bits ps (and_parts true (list_all (piece_fits c) ps) h).1 net bit r
+  pieces_bits (piece.Part n at width ∷ ps) h net bit (inl r) =
+      let x = holds_net c n (at + width) (and_parts (net_holds c n (at + width)) (list_all (piece_fits c) ps) h).0 in
+      (x.0, subst (λ (k : ℕ). slice_get c.nets k ≡ Some x.0) r.0 x.1, omega (arith, r.2, x.2))
+  pieces_bits (piece.Part n at width ∷ ps) h net bit (inr r) = pieces_bits ps (and_parts (net_holds c n (at + width)) (list_all (piece_fits c) ps) h).1 net bit r
+
+module _ (c : Circuit) (valid : is_valid c ≡ true) where
+  abbrev rest_drives : Bool
+  rest_drives =
+      list_all (cell_fits c) c.cells
+      && (list_all (register_fits c) c.regs
+      && (list_all (mem_fits c) c.mems
+      && (inputs_fit c
+      && (list_all (item_fits c) c.items
+      && (slots_run c 0 c.items
+      && (names_rise c.items
+      && (list_all scope_fits c.scopes
+      && (names_differ c.scopes
+      && (list_any (λ s. length s.name == 0) c.scopes
+      && list_all (diag_fits c) c.diags)))))))))
+
+  abbrev few_nets : Bool
+  few_nets = list_all (λ (x : Net). nat_le x.width widest) c.nets
+
+  abbrev fit_drives : Bool
+  fit_drives = list_all (drive_fits c) c.drives
+
+  first_part : (counts_fit c ≡ true) × ((few_nets && (fit_drives && rest_drives)) ≡ true)
+  first_part = and_parts (counts_fit c) (few_nets && (fit_drives && rest_drives)) valid
+
+  second_part : (few_nets ≡ true) × ((fit_drives && rest_drives) ≡ true)
+  second_part = and_parts few_nets (fit_drives && rest_drives) first_part.1
+
+  third_part : (fit_drives ≡ true) × (rest_drives ≡ true)
+  third_part = and_parts fit_drives rest_drives second_part.1
+
+  pub counts : counts_fit c ≡ true
+  counts = first_part.0
+
+  pub net_width : (n : ℕ) (x : Net) → slice_get c.nets n ≡ Some x → x.width ≤ 65536
+  net_width n x e = leb-true x.width widest (all_at (λ (y : Net). nat_le y.width widest) c.nets second_part.0 n x e)
+
+  pub drive_fits_at : (i : ℕ) (d : Drive) → slice_get c.drives i ≡ Some d → drive_fits c d ≡ true
+  drive_fits_at i d e = all_at (drive_fits c) c.drives third_part.0 i d e
+
+  abbrev rest_mems : Bool
+  rest_mems =
+      inputs_fit c
+      && (list_all (item_fits c) c.items
+      && (slots_run c 0 c.items
+      && (names_rise c.items
+      && (list_all scope_fits c.scopes
+      && (names_differ c.scopes
+      && (list_any (λ s. length s.name == 0) c.scopes
+      && list_all (diag_fits c) c.diags))))))
+
+  abbrev fit_cells : Bool
+  fit_cells = list_all (cell_fits c) c.cells
+
+  abbrev fit_registers : Bool
+  fit_registers = list_all (register_fits c) c.regs
+
+  abbrev fit_mems : Bool
+  fit_mems = list_all (mem_fits c) c.mems
+
+  fourth_part : (fit_cells ≡ true) × ((fit_registers && (fit_mems && rest_mems)) ≡ true)
+  fourth_part = and_parts fit_cells (fit_registers && (fit_mems && rest_mems)) third_part.1
+
+  fifth_part : (fit_registers ≡ true) × ((fit_mems && rest_mems) ≡ true)
+  fifth_part = and_parts fit_registers (fit_mems && rest_mems) fourth_part.1
+
+  pub cell_fits_at : (n : ℕ) (x : Cell) → slice_get c.cells n ≡ Some x → cell_fits c x ≡ true
+  cell_fits_at n x e = all_at (cell_fits c) c.cells fourth_part.0 n x e
+
+  pub mem_fits_at : (n : ℕ) (m : Mem) → slice_get c.mems n ≡ Some m → mem_fits c m ≡ true
+  mem_fits_at n m e = all_at (mem_fits c) c.mems (and_parts fit_mems rest_mems fifth_part.1).0 n m e
+
+  mem_parts : (n : ℕ) (m : Mem) → slice_get c.mems n ≡ Some m → (is_countable (length m.reads) ≡ true) × (list_all (read_fits c m (address_width m.reads m.writes)) m.reads ≡ true)
+  mem_parts n m e =
+      let tail : Bool = list_all (read_fits c m (address_width m.reads m.writes)) m.reads && list_all (write_fits c m (address_width m.reads m.writes)) m.writes in
+      let a = and_parts (nat_le m.width widest) (m.init.width == m.size * m.width && (is_countable (length m.reads) && tail)) (mem_fits_at n m e) in
+      let b = and_parts (m.init.width == m.size * m.width) (is_countable (length m.reads) && tail) a.1 in
+      let d = and_parts (is_countable (length m.reads)) tail b.1 in
+      (d.0, (and_parts (list_all (read_fits c m (address_width m.reads m.writes)) m.reads) (list_all (write_fits c m (address_width m.reads m.writes)) m.writes) d.1).0)
+
+  pub port_count : (n : ℕ) (m : Mem) → slice_get c.mems n ≡ Some m → length m.reads < 2 ^ 32
+  port_count n m e = ltb-true (length m.reads) (2 ^ 32) (mem_parts n m e).0
+
+  -- a signal's bits are there
+  pub sig_bits : (ps : List Piece) → sig_fits c ps ≡ true → (net bit : ℕ) → Reads ps net bit → IsBit c.nets (net, bit)
+  sig_bits ps fits net bit r = pieces_bits c ps (and_parts (list_all (piece_fits c) ps) (nat_le (sig_width ps) widest) fits).0 net bit r
+
+  pub cell_bits : (n : ℕ) (x : Cell) → slice_get c.cells n ≡ Some x → (net bit : ℕ) → ReadsBit x net bit → IsBit c.nets (net, bit)
+  cell_bits n x e net bit r =
+      let tail : Bool = sig_fits c x.s && (nat_le x.width widest && widths_fit x.op (widths_of x)) in
+      let a = and_parts (sig_fits c x.a) (sig_fits c x.b && tail) (cell_fits_at n x e) in
+      let b = and_parts (sig_fits c x.b) tail a.1 in
+      let d = and_parts (sig_fits c x.s) (nat_le x.width widest && widths_fit x.op (widths_of x)) b.1 in
+      elim r [
+        | inl h ↦ sig_bits x.a a.0 net bit h
+        | inr t ↦ elim t [ inl h ↦ sig_bits x.b b.0 net bit h | inr h ↦ sig_bits x.s d.0 net bit h ]
+      ]
+
+  pub port_bits : (n k : ℕ) (m : Mem) (p : ReadPort) → slice_get c.mems n ≡ Some m → slice_get m.reads k ≡ Some p → (net bit : ℕ) → Reads p.addr net bit → IsBit c.nets (net, bit)
+  port_bits n k m p e at net bit r =
+      let abits : ℕ = address_width m.reads m.writes in
+      let f : read_fits c m abits p ≡ true = all_at (read_fits c m abits) m.reads (mem_parts n m e).1 k p at in
+      let tail : Bool = length p.see == length m.writes && p.init.width == m.width in
+      let a = and_parts (sig_of c 1 p.clk) (sig_of c 1 p.en && (sig_of c abits p.addr && tail)) f in
+      let b = and_parts (sig_of c 1 p.en) (sig_of c abits p.addr && tail) a.1 in
+      let d = and_parts (sig_of c abits p.addr) tail b.1 in
+      sig_bits p.addr (and_parts (sig_fits c p.addr) (sig_width p.addr == abits) d.0).0 net bit r
+
+  pub net_count : length c.nets < 2 ^ 32
+  net_count = ltb-true (length c.nets) (2 ^ 32) (and_parts (is_countable (length c.nets)) (is_countable (length c.cells) && (is_countable (length c.regs) && (is_countable (length c.mems)
+      && (is_countable (length c.inputs) && (is_countable (length c.scopes) && is_countable (slot_count c)))))) counts).0
+
+  -- no more bits than 2 ^ 48
+  pub bits_bound : (n : ℕ) → before width_of c.nets n ≤ 65536 * 2 ^ 32
+  bits_bound n =
+      let a : before width_of c.nets n ≤ 65536 * length c.nets = before_bound width_of 65536 c.nets net_width n in
+      let b = net_count in
+      omega arith
+
+  pub drives_inside : AreDrivesInside c
+  drives_inside i d e = held (slice_get c.nets d.net) refl
+    where
+      fits : (net_holds c d.net (d.at + d.width) ≡ true) × (driver_fits c d.width d.by ≡ true)
+      fits = and_parts (net_holds c d.net (d.at + d.width)) (driver_fits c d.width d.by) (drive_fits_at i d e)
+
+      held : (o : Option Net) → slice_get c.nets d.net ≡ o → (x : Net) × (slice_get c.nets d.net ≡ Some x) × (d.at + d.width ≤ x.width)
+      held None is = absurd (let z : false ≡ true = sym (ap (reaches (d.at + d.width)) is) ∙ fits.0 in cc z)
+      held (Some x) is = (x, is, leb-true (d.at + d.width) x.width (sym (ap (reaches (d.at + d.width)) is) ∙ fits.0))

@@ -1,0 +1,62 @@
+//! The cells and the read ports of a circuit in a row.
+ghost use Rattle.std.specs.Prelude.{◌≡◌, ℕ, ◌+◌, ◌^◌, ◌<◌, length, true, IfOk, OnOk, slice_get, slice_index, Some};
+ghost use Rattle.circuit.specs.Valid.{is_valid};
+ghost use Rattle.driver_check.specs.Numbers.{before, ports_of};
+ghost use Rattle.driver_check.specs.Vertices.{AreParts, ArePlaced};
+
+use crate::plan::Node;
+use circuit::{Circuit, Mem};
+use sim_base::NoMemory;
+use std::alloc::Global;
+
+/// All cells and read ports, and the place of the first port of each memory.
+#[derive(Debug, Drop)]
+pub struct Parts {
+    pub nodes: Vec<Node>,
+    pub ports: Vec<usize>,
+}
+
+/// Adds the cells.
+fn push_cells(circuit: &Circuit, nodes: &mut Vec<Node>) -> Result<(), NoMemory>
+    requires empty { length nodes.old.items ≡ 0 }
+    requires few { length circuit.now.cells < 2 ^ 32 }
+    ensures long { OnOk result (length nodes.new.items ≡ length circuit.now.cells) }
+    ensures placed { OnOk result (ArePlaced circuit.now nodes.new.items) }
+{
+    for cell in 0..circuit.cells.len() {
+        nodes.push(Node::Cell(cell as u32))?;
+    }
+    Ok(())
+}
+
+/// Adds the read ports of a memory.
+fn push_ports(circuit: &Circuit, place: usize, mem: &Mem, nodes: &mut Vec<Node>) -> Result<(), NoMemory>
+    requires there { slice_get circuit.now.mems place ≡ Some mem.now }
+    requires few { place < 2 ^ 32 }
+    requires few_ports { length mem.now.reads < 2 ^ 32 }
+    requires long { length nodes.old.items ≡ length circuit.now.cells + before ports_of circuit.now.mems place }
+    requires placed { ArePlaced circuit.now nodes.old.items }
+    ensures long { OnOk result (length nodes.new.items ≡ length circuit.now.cells + before ports_of circuit.now.mems (place + 1)) }
+    ensures placed { OnOk result (ArePlaced circuit.now nodes.new.items) }
+{
+    let _ = circuit;
+    for port in 0..mem.reads.len() {
+        nodes.push(Node::Read(place as u32, port as u32))?;
+    }
+    Ok(())
+}
+
+/// Lists all cells and read ports.
+pub fn parts_of(alloc: Global, circuit: &Circuit) -> Result<Parts, NoMemory>
+    requires { is_valid circuit.now ≡ true }
+    ensures { IfOk result (λ p. AreParts circuit.now p.nodes.items p.ports.items) }
+{
+    let mut nodes = Vec::new(alloc);
+    push_cells(circuit, &mut nodes)?;
+    let mut ports = Vec::new(alloc);
+    for (place, mem) in circuit.mems.as_slice().iter().enumerate() {
+        ports.push(nodes.len())?;
+        push_ports(circuit, place, mem, &mut nodes)?;
+    }
+    Ok(Parts { nodes, ports })
+}
