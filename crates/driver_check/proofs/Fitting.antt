@@ -4,7 +4,7 @@ use Rattle.std.specs.Prelude.{slice_get}
 use Rattle.std.specs.List.{list_all}
 use Rattle.std.proofs.lemmas.Bool.{and_parts, leb-true, ltb-true}
 use Rattle.circuit.specs.Free.{AreDrivesInside}
-use Rattle.circuit.specs.Valid.{cell_fits, counts_fit, diag_fits, drive_fits, driver_fits, address_width, inputs_fit, is_countable, is_valid, item_fits, mem_fits, names_differ, names_rise, net_holds, piece_fits, reaches, read_fits, register_fits, sig_fits, sig_of, widths_fit, widths_of, write_fits, scope_fits, slot_count, slots_run, widest}
+use Rattle.circuit.specs.Valid.{cell_fits, cell_holds, port_holds, counts_fit, diag_fits, drive_fits, driver_fits, address_width, inputs_fit, is_countable, is_valid, item_fits, mem_fits, names_differ, names_rise, net_holds, piece_fits, reaches, read_fits, register_fits, sig_fits, sig_of, widths_fit, widths_of, write_fits, scope_fits, slot_count, slots_run, widest}
 use Rattle.std.specs.List.{list_any}
 use Rattle.std.specs.Prelude.{◌==◌}
 use Rattle.circuit.specs.Signal.{Reads, sig_width}
@@ -15,9 +15,11 @@ use Rattle.circuit.specs.declared.netlist.Net.{Net}
 use Rattle.circuit.specs.declared.cell.Cell.{Cell}
 use Rattle.circuit.specs.declared.memory.Mem.{Mem}
 use Rattle.circuit.specs.declared.memory.ReadPort.{ReadPort}
+use Rattle.circuit.specs.declared.netlist.By.TheVariants as by
 use Rattle.circuit.specs.declared.netlist.Piece.{Piece}
 use Rattle.circuit.specs.declared.netlist.Piece.TheVariants as piece
 use Rattle.driver_check.specs.Numbers.{IsBit, before, width_of}
+use Rattle.driver_check.proofs.Places.{within}
 use Rattle.driver_check.proofs.Numbered.{before_bound}
 
 pub all_at : {X : Type 0} (p : X → Bool) (xs : List X) → list_all p xs ≡ true → (i : ℕ) (x : X) → slice_get xs i ≡ Some x → p x ≡ true
@@ -130,6 +132,17 @@ module _ (c : Circuit) (valid : is_valid c ≡ true) where
   pub sig_bits : (ps : List Piece) → sig_fits c ps ≡ true → (net bit : ℕ) → Reads ps net bit → IsBit c.nets (net, bit)
   sig_bits ps fits net bit r = pieces_bits c ps (and_parts (list_all (piece_fits c) ps) (nat_le (sig_width ps) widest) fits).0 net bit r
 
+  pub cell_sigs : (x : Cell) → cell_fits c x ≡ true → (list_all (piece_fits c) x.a ≡ true) × (list_all (piece_fits c) x.b ≡ true) × (list_all (piece_fits c) x.s ≡ true)
+  cell_sigs x fits =
+      let tail : Bool = sig_fits c x.s && (nat_le x.width widest && widths_fit x.op (widths_of x)) in
+      let a = and_parts (sig_fits c x.a) (sig_fits c x.b && tail) fits in
+      let b = and_parts (sig_fits c x.b) tail a.1 in
+      let d = and_parts (sig_fits c x.s) (nat_le x.width widest && widths_fit x.op (widths_of x)) b.1 in (
+        (and_parts (list_all (piece_fits c) x.a) (nat_le (sig_width x.a) widest) a.0).0,
+        (and_parts (list_all (piece_fits c) x.b) (nat_le (sig_width x.b) widest) b.0).0,
+        (and_parts (list_all (piece_fits c) x.s) (nat_le (sig_width x.s) widest) d.0).0,
+      )
+
   pub cell_bits : (n : ℕ) (x : Cell) → slice_get c.cells n ≡ Some x → (net bit : ℕ) → ReadsBit x net bit → IsBit c.nets (net, bit)
   cell_bits n x e net bit r =
       let tail : Bool = sig_fits c x.s && (nat_le x.width widest && widths_fit x.op (widths_of x)) in
@@ -141,15 +154,18 @@ module _ (c : Circuit) (valid : is_valid c ≡ true) where
         | inr t ↦ elim t [ inl h ↦ sig_bits x.b b.0 net bit h | inr h ↦ sig_bits x.s d.0 net bit h ]
       ]
 
-  pub port_bits : (n k : ℕ) (m : Mem) (p : ReadPort) → slice_get c.mems n ≡ Some m → slice_get m.reads k ≡ Some p → (net bit : ℕ) → Reads p.addr net bit → IsBit c.nets (net, bit)
-  port_bits n k m p e at net bit r =
+  pub port_fits_at : (n k : ℕ) (m : Mem) (p : ReadPort) → slice_get c.mems n ≡ Some m → slice_get m.reads k ≡ Some p → sig_fits c p.addr ≡ true
+  port_fits_at n k m p e at =
       let abits : ℕ = address_width m.reads m.writes in
       let f : read_fits c m abits p ≡ true = all_at (read_fits c m abits) m.reads (mem_parts n m e).1 k p at in
       let tail : Bool = length p.see == length m.writes && p.init.width == m.width in
       let a = and_parts (sig_of c 1 p.clk) (sig_of c 1 p.en && (sig_of c abits p.addr && tail)) f in
       let b = and_parts (sig_of c 1 p.en) (sig_of c abits p.addr && tail) a.1 in
       let d = and_parts (sig_of c abits p.addr) tail b.1 in
-      sig_bits p.addr (and_parts (sig_fits c p.addr) (sig_width p.addr == abits) d.0).0 net bit r
+      (and_parts (sig_fits c p.addr) (sig_width p.addr == abits) d.0).0
+
+  pub port_bits : (n k : ℕ) (m : Mem) (p : ReadPort) → slice_get c.mems n ≡ Some m → slice_get m.reads k ≡ Some p → (net bit : ℕ) → Reads p.addr net bit → IsBit c.nets (net, bit)
+  port_bits n k m p e at net bit r = sig_bits p.addr (port_fits_at n k m p e at) net bit r
 
   pub net_count : length c.nets < 2 ^ 32
   net_count = ltb-true (length c.nets) (2 ^ 32) (and_parts (is_countable (length c.nets)) (is_countable (length c.cells) && (is_countable (length c.regs) && (is_countable (length c.mems)
@@ -171,3 +187,37 @@ module _ (c : Circuit) (valid : is_valid c ≡ true) where
       held : (o : Option Net) → slice_get c.nets d.net ≡ o → (x : Net) × (slice_get c.nets d.net ≡ Some x) × (d.at + d.width ≤ x.width)
       held None is = absurd (let z : false ≡ true = sym (ap (reaches (d.at + d.width)) is) ∙ fits.0 in cc z)
       held (Some x) is = (x, is, leb-true (d.at + d.width) x.width (sym (ap (reaches (d.at + d.width)) is) ∙ fits.0))
+
+  -- ---- what a drive takes from is there
+  module _ (d : Drive) (fits : drive_fits c d ≡ true) where
+    driver : driver_fits c d.width d.by ≡ true
+    driver = (and_parts (net_holds c d.net (d.at + d.width)) (driver_fits c d.width d.by) fits).1
+
+    pub wire_there : (n at : ℕ) → d.by ≡ by.Wire n at → (x : Net) × (slice_get c.nets n ≡ Some x) × (at + d.width ≤ x.width)
+    wire_there n at is = holds_net c n (at + d.width) (sym (ap (driver_fits c d.width) is) ∙ driver)
+
+    pub cell_there : (n at : ℕ) → d.by ≡ by.Cell n at → n < length c.cells
+    cell_there n at is = held (slice_get c.cells n) refl
+      where
+        h : cell_holds (at + d.width) (slice_get c.cells n) ≡ true
+        h = sym (ap (driver_fits c d.width) is) ∙ driver
+
+        held : (o : Option Cell) → slice_get c.cells n ≡ o → n < length c.cells
+        held None e = absurd (let z : false ≡ true = sym (ap (cell_holds (at + d.width)) e) ∙ h in cc z)
+        held (Some x) e = within c.cells n x e
+
+    pub port_there : (m n at : ℕ) → d.by ≡ by.Read m n at → (x : Mem) × (slice_get c.mems m ≡ Some x) × (n < length x.reads)
+    port_there m n at is = held (slice_get c.mems m) refl
+      where
+        h : port_holds n (at + d.width) (slice_get c.mems m) ≡ true
+        h = sym (ap (driver_fits c d.width) is) ∙ driver
+
+        held : (o : Option Mem) → slice_get c.mems m ≡ o → (x : Mem) × (slice_get c.mems m ≡ Some x) × (n < length x.reads)
+        held None e = absurd (let z : false ≡ true = sym (ap (port_holds n (at + d.width)) e) ∙ h in cc z)
+        held (Some x) e = (x, e, ltb-true n (length x.reads) (and_parts (nat_lt n (length x.reads)) (nat_le (at + d.width) x.width) (sym (ap (port_holds n (at + d.width)) e) ∙ h)).0)
+
+  pub cell_count : length c.cells < 2 ^ 32
+  cell_count =
+      let rest : Bool = is_countable (length c.regs) && (is_countable (length c.mems) && (is_countable (length c.inputs) && (is_countable (length c.scopes) && is_countable (slot_count c)))) in
+      let a = and_parts (is_countable (length c.nets)) (is_countable (length c.cells) && rest) counts in
+      ltb-true (length c.cells) (2 ^ 32) (and_parts (is_countable (length c.cells)) rest a.1).0

@@ -55,12 +55,12 @@ pub number_once : (nets : List Net) (x y : Bit) → IsBit nets x → IsBit nets 
 number_once nets x y a b e = elim (cases_lt x.0 y.0) [
   | inl lt ↦ absurd (let h = number_rises nets x y a (inl lt) in omega (arith, h, e))
   | inr le ↦ elim (cases_lt y.0 x.0) [
-      | inl lt ↦ absurd (let h = number_rises nets y x b (inl lt) in omega (arith, h, e))
-      | inr ge ↦
-          (let z : x.0 ≡ y.0 = omega (arith, le, ge) in
-          let h : before width_of nets x.0 ≡ before width_of nets y.0 = ap (before width_of nets) z in
-          (z, omega (arith, h, e)))
-    ]
+    | inl lt ↦ absurd (let h = number_rises nets y x b (inl lt) in omega (arith, h, e))
+    | inr ge ↦
+        (let z : x.0 ≡ y.0 = omega (arith, le, ge) in
+        let h : before width_of nets x.0 ≡ before width_of nets y.0 = ap (before width_of nets) z in
+        (z, omega (arith, h, e)))
+  ]
 ]
 
 -- of two bits the one with the smaller number comes first

@@ -1,9 +1,9 @@
 -- The drive of each bit, drive by drive.
-use Rattle.std.proofs.Common.{◌≡◌, ◌≢◌, ℕ, zero, suc, ◌+◌, ◌-◌, ◌<◌, ◌≤◌, ◌⊎◌, List, [], ◌∷◌, length, refl, sym, ◌∙◌, ap, subst, arith, inl, inr, Bool, true, false, cond, ◌&&◌, Some, nat_eq, nat_le, nat_lt}
-use Rattle.std.specs.Prelude.{slice_get, slice_index, ◌==◌}
+use Rattle.std.proofs.Common.{◌≡◌, ◌≢◌, ℕ, zero, suc, ◌+◌, ◌-◌, ◌<◌, ◌≤◌, ◌⊎◌, List, [], ◌∷◌, length, refl, sym, ◌∙◌, ap, subst, arith, inl, inr, Bool, true, false, cond, ◌&&◌, Some, None, nat_eq, nat_le, nat_lt}
+use Rattle.std.specs.Prelude.{slice_get, slice_index, ◌==◌, find}
 use Rattle.std.proofs.lemmas.Bool.{cases_Bool, cases_eq, cases_lt, and_parts, and_from, eqb-true, eq-eqb, leb-true, le-leb, ltb-true, lt-ltb, cond-true, cond-false}
 use Rattle.circuit.specs.Free.{AreDrivesInside}
-use Rattle.circuit.specs.Valuation.{covers}
+use Rattle.circuit.specs.Valuation.{covers, drive_of}
 use Rattle.circuit.specs.declared.netlist.Circuit.{Circuit}
 use Rattle.circuit.specs.declared.netlist.Drive.{Drive}
 use Rattle.circuit.specs.declared.netlist.Net.{Net}
@@ -75,15 +75,21 @@ module _ (c : Circuit) (inside : AreDrivesInside c) (i : ℕ) (d : Drive) (at : 
       let q = and_parts (nat_le (start_of c.nets d) v) (nat_lt v (start_of c.nets d + d.width)) p.0 in
       let free = eqb-true owner (length c.drives) p.1 in
       let cov = in_covers c inside i d at x b (leb-true (start_of c.nets d) v q.0, ltb-true v (start_of c.nets d + d.width) q.1) in
-      inl (omega arith, (d, at, cov), elim was [
-        | inl o ↦ absurd (let t = within c.drives owner o.1.0 o.1.1 in omega (arith, t, free))
-        | inr o ↦ o.1
-      ])
+      inl (
+        omega arith,
+        (d, at, cov),
+        elim was [
+          | inl o ↦ absurd (let t = within c.drives owner o.1.0 o.1.1 in omega (arith, t, free))
+          | inr o ↦ o.1
+        ],
+      )
 
   owner_stays : test ≡ false → IsOwner c (i + 1) x owner
   owner_stays off = elim was [
     | inl o ↦ inl (omega (arith, o.0), o.1, o.2)
-    | inr o ↦ inr (o.0, λ k lt cov. elim (cases_eq k i) [
+    | inr o ↦ inr (
+      o.0,
+      λ k lt cov. elim (cases_eq k i) [
         | inl e ↦
             (let same_drive : cov.0 ≡ d = same c.drives i cov.0 d (subst (λ (n : ℕ). slice_get c.drives n ≡ Some cov.0) e cov.1) at in
             let here : covers x.0 x.1 d ≡ true = sym (ap (covers x.0 x.1) same_drive) ∙ cov.2 in
@@ -94,7 +100,8 @@ module _ (c : Circuit) (inside : AreDrivesInside c) (i : ℕ) (d : Drive) (at : 
             (eq-eqb owner (length c.drives) o.0) in
             let z : true ≡ false = sym on ∙ off in cc z)
         | inr ne ↦ o.1 k (omega (arith, lt, ne)) cov
-      ])
+      ],
+    )
   ]
 
   owner_more : IsOwner c (i + 1) x (cond test i owner)
@@ -117,9 +124,9 @@ module _ (c : Circuit) (inside : AreDrivesInside c) (owners : List ℕ) (are : A
   pub owner_first : (i : ℕ) (x : Bit) → Covers c i x → (slice_index owners (number_of c.nets x) ≤ i) × Covers c (slice_index owners (number_of c.nets x)) x × ((k : ℕ) → k < slice_index owners (number_of c.nets x) → Covers c k x → ⊥)
   owner_first i x cov = elim (are x (covered_is_bit c inside i x cov)) [
     | inl o ↦ elim (cases_lt i (slice_index owners (number_of c.nets x))) [
-        | inl lt ↦ absurd (o.2 i lt cov)
-        | inr le ↦ (le, o.1, o.2)
-      ]
+      | inl lt ↦ absurd (o.2 i lt cov)
+      | inr le ↦ (le, o.1, o.2)
+    ]
     | inr o ↦ absurd (o.1 i (within c.drives i cov.0 cov.1) cov)
   ]
 
@@ -159,9 +166,9 @@ module _ (c : Circuit) (inside : AreDrivesInside c) (owners : List ℕ) (are : A
   once bits all is i j net bit d e p q cd ce = elim (cases_lt i j) [
     | inl lt ↦ absurd (clash i j (d, p, cd) (e, q, ce) lt)
     | inr le ↦ elim (cases_lt j i) [
-        | inl lt ↦ absurd (clash j i (e, q, ce) (d, p, cd) lt)
-        | inr ge ↦ omega (arith, le, ge)
-      ]
+      | inl lt ↦ absurd (clash j i (e, q, ce) (d, p, cd) lt)
+      | inr ge ↦ omega (arith, le, ge)
+    ]
   ]
     where
       clash : (k l : ℕ) → Covers c k (net, bit) → Covers c l (net, bit) → k < l → ⊥
@@ -211,9 +218,9 @@ module _ (c : Circuit) (inside : AreDrivesInside c) (owners : List ℕ) (are : A
     no_other = λ i lt h. elim (cases_lt i (slice_index owners least)) [
       | inl less ↦ absurd (no_earlier i less h)
       | inr le ↦ elim (cases_eq i (slice_index owners least)) [
-          | inl e ↦ e
-          | inr ne ↦ absurd (let z : true ≡ false = sym h.2 ∙ next.no_other i h.0 (omega (arith, le, ne)) lt h.1 in cc z)
-        ]
+        | inl e ↦ e
+        | inr ne ↦ absurd (let z : true ≡ false = sym h.2 ∙ next.no_other i h.0 (omega (arith, le, ne)) lt h.1 in cc z)
+      ]
     ];
     least = λ z also lt.
         let there = covered_is_bit c inside also.1 z also.4 in
@@ -239,3 +246,46 @@ module _ (c : Circuit) (inside : AreDrivesInside c) (owners : List ℕ) (are : A
             | inl less ↦ o less here.3
             | inr le ↦ (let z : true ≡ false = sym here.4.2 ∙ next.no_other j here.4.0 (omega (arith, le, here.2)) (omega (arith, e, there)) here.4.1 in cc z)
           ]
+
+-- ---- the owner of a bit is its drive
+
+find_first : (p : Drive → Bool) (xs : List Drive) (o : ℕ) (d : Drive) → slice_get xs o ≡ Some d → p d ≡ true → ((k : ℕ) (e : Drive) → k < o → slice_get xs k ≡ Some e → p e ≡ true → ⊥) → find p xs ≡ Some d
+find_first p [] o d at on before = cc at
+find_first p (x ∷ xs) zero d at on before =
+    let z : x ≡ d = let h : Some x ≡ Some d = at in cc h in
+    cond-true (p x) (Some x) (find p xs) (ap p z ∙ on) ∙ at
+find_first p (x ∷ xs) (suc o) d at on before = elim (cases_Bool (p x)) [
+  | inl h ↦ absurd (before 0 x (omega arith) refl h)
+  | inr h ↦ cond-false (p x) (Some x) (find p xs) h ∙ find_first p xs o d at on (λ k e lt is. before (suc k) e (omega (arith, lt)) is)
+]
+
+find_nothing : (p : Drive → Bool) (xs : List Drive) → ((k : ℕ) (e : Drive) → slice_get xs k ≡ Some e → p e ≡ true → ⊥) → find p xs ≡ None
+find_nothing p [] none = refl
+find_nothing p (x ∷ xs) none = elim (cases_Bool (p x)) [
+  | inl h ↦ absurd (none 0 x refl h)
+  | inr h ↦ cond-false (p x) (Some x) (find p xs) h ∙ find_nothing p xs (λ k e is. none (suc k) e is)
+]
+
+pub owner_drive : (c : Circuit) (x : Bit) (o : ℕ) (d : Drive) → IsOwner c (length c.drives) x o → slice_get c.drives o ≡ Some d → drive_of c x.0 x.1 ≡ Some d
+owner_drive c x o d (inl h) at =
+    let z : h.1.0 ≡ d = same c.drives o h.1.0 d h.1.1 at in
+    find_first (covers x.0 x.1) c.drives o d at (sym (ap (covers x.0 x.1) z) ∙ h.1.2) (λ k e lt is on. h.2 k lt (e, is, on))
+owner_drive c x o d (inr h) at = absurd (omega (arith, h.0, within c.drives o d at))
+
+pub nobody_drive : (c : Circuit) (x : Bit) (o : ℕ) → IsOwner c (length c.drives) x o → length c.drives ≤ o → drive_of c x.0 x.1 ≡ None
+nobody_drive c x o (inl h) past = absurd (omega (arith, h.0, past))
+nobody_drive c x o (inr h) past = find_nothing (covers x.0 x.1) c.drives (λ k e is on. h.1 k (within c.drives k e is) (e, is, on))
+
+-- the owner of a bit covers it
+pub owner_has : (c : Circuit) (x : Bit) (o : ℕ) (d : Drive) → IsOwner c (length c.drives) x o → slice_get c.drives o ≡ Some d → covers x.0 x.1 d ≡ true
+owner_has c x o d (inl h) at =
+    let z : h.1.0 ≡ d = same c.drives o h.1.0 d h.1.1 at in
+    sym (ap (covers x.0 x.1) z) ∙ h.1.2
+owner_has c x o d (inr h) at = absurd (omega (arith, h.0, within c.drives o d at))
+
+-- the place of a bit in its drive
+pub offset_is : (c : Circuit) (x : Bit) (d : Drive) → covers x.0 x.1 d ≡ true → number_of c.nets x - start_of c.nets d ≡ x.1 - d.at
+offset_is c x d cov =
+    let p = covers_parts d x.0 x.1 cov in
+    let e : before width_of c.nets d.net ≡ before width_of c.nets x.0 = ap (before width_of c.nets) p.0 in
+    omega (arith, e, p.1)

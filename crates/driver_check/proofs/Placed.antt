@@ -16,12 +16,12 @@ pub part_once : {X : Type 0} (size : X → ℕ) (xs : List X) (n m i j : ℕ) (x
 part_once size xs n m i j x y p q a b e = elim (cases_lt n m) [
   | inl lt ↦ absurd (let h = before_later size xs n m x p lt in omega (arith, h, a, e))
   | inr le ↦ elim (cases_lt m n) [
-      | inl lt ↦ absurd (let h = before_later size xs m n y q lt in omega (arith, h, b, e))
-      | inr ge ↦
-          (let z : n ≡ m = omega (arith, le, ge) in
-          let h : before size xs n ≡ before size xs m = ap (before size xs) z in
-          (z, omega (arith, h, e)))
-    ]
+    | inl lt ↦ absurd (let h = before_later size xs m n y q lt in omega (arith, h, b, e))
+    | inr ge ↦
+        (let z : n ≡ m = omega (arith, le, ge) in
+        let h : before size xs n ≡ before size xs m = ap (before size xs) z in
+        (z, omega (arith, h, e)))
+  ]
 ]
 
 -- each part has a place of its own

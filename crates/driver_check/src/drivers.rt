@@ -39,7 +39,11 @@ fn shared_within(owners: &[usize], first: usize, width: usize, place: usize, lea
 }
 
 /// The place of the first drive that covers each bit, by the number of the bit.
-pub fn owners(alloc: Global, circuit: &Circuit, numbering: &Numbering) -> Result<Vec<usize>, NoMemory>
+pub fn owners(
+    alloc: Global,
+    circuit: &Circuit,
+    numbering: &Numbering,
+) -> Result<Vec<usize>, NoMemory>
     requires valid { is_valid circuit.now ≡ true }
     requires numbers { IsNumbering circuit.now.nets numbering.now.firsts.items numbering.now.bits }
     ensures { IfOk result (λ owners. (length owners.items ≡ numbering.now.bits) × AreOwners circuit.now (length circuit.now.drives) owners.items) }

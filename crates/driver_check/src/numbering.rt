@@ -1,5 +1,6 @@
 //! Numbers for the bits of a circuit's nets.
 ghost use Rattle.std.specs.Prelude.{◌≡◌, ℕ, ◌+◌, ◌<◌, ◌≤◌, ◌^◌, length, IfOk, slice_index, slice_get, Some};
+ghost use Rattle.circuit.specs.declared.netlist.Net.{Net as TheNet};
 ghost use Rattle.driver_check.specs.Numbers.{IsInsideNet, IsNumbering, before, bit_count, start_of, width_of};
 
 use circuit::{Drive, Net};
@@ -14,6 +15,18 @@ pub struct Numbering {
 }
 
 impl Numbering {
+    /// The number of a bit, or of the one behind the last bit of the net.
+    pub fn number(&self, nets: &[Net], net: u32, at: u32) -> usize
+        requires numbers { IsNumbering nets.now self.now.firsts.items self.now.bits }
+        requires inside { (x : TheNet) × (slice_get nets.now net ≡ Some x) × (at ≤ x.width) }
+        requires few { bit_count nets.now < 2 ^ 63 }
+        ensures value { result ≡ before width_of nets.now net + at }
+        ensures few { result < 2 ^ 63 }
+    {
+        let _ = nets;
+        self.firsts[net as usize] + at as usize
+    }
+
     /// The number of the first bit of a drive.
     pub fn start(&self, nets: &[Net], drive: &Drive) -> usize
         requires numbers { IsNumbering nets.now self.now.firsts.items self.now.bits }

@@ -2,7 +2,8 @@
 ghost use Rattle.std.specs.Prelude.{◌≡◌, ℕ, ◌+◌, ◌^◌, ◌<◌, length, true, IfOk, OnOk, slice_get, slice_index, Some};
 ghost use Rattle.circuit.specs.Valid.{is_valid};
 ghost use Rattle.driver_check.specs.Numbers.{before, ports_of};
-ghost use Rattle.driver_check.specs.Vertices.{AreParts, ArePlaced};
+ghost use Rattle.driver_check.specs.Vertices.{AreParts, ArePlaced, IsPart, place_of};
+ghost use Rattle.driver_check.specs.declared.plan.Node.TheVariants as node;
 
 use crate::plan::Node;
 use circuit::{Circuit, Mem};
@@ -14,6 +15,20 @@ use std::alloc::Global;
 pub struct Parts {
     pub nodes: Vec<Node>,
     pub ports: Vec<usize>,
+}
+
+impl Parts {
+    /// The place of a read port.
+    pub fn port_place(&self, circuit: &Circuit, mem: u32, port: u32) -> usize
+        requires parts { AreParts circuit.now self.now.nodes.items self.now.ports.items }
+        requires there { IsPart circuit.now (node.Read mem port) }
+        ensures value { result ≡ place_of circuit.now (node.Read mem port) }
+        ensures below { result < 2 ^ 63 }
+    {
+        let _ = circuit;
+        let _ = &self.nodes;
+        self.ports[mem as usize] + port as usize
+    }
 }
 
 /// Adds the cells.
@@ -30,7 +45,12 @@ fn push_cells(circuit: &Circuit, nodes: &mut Vec<Node>) -> Result<(), NoMemory>
 }
 
 /// Adds the read ports of a memory.
-fn push_ports(circuit: &Circuit, place: usize, mem: &Mem, nodes: &mut Vec<Node>) -> Result<(), NoMemory>
+fn push_ports(
+    circuit: &Circuit,
+    place: usize,
+    mem: &Mem,
+    nodes: &mut Vec<Node>,
+) -> Result<(), NoMemory>
     requires there { slice_get circuit.now.mems place ≡ Some mem.now }
     requires few { place < 2 ^ 32 }
     requires few_ports { length mem.now.reads < 2 ^ 32 }
