@@ -4,3 +4,6 @@ pub mod Numbered
 pub mod Fitting
 pub mod Owned
 pub mod Placed
+pub mod Frees
+pub mod Linked
+pub mod Freedom

@@ -5,3 +5,4 @@ pub mod Search
 pub mod Numbers
 pub mod Owners
 pub mod Vertices
+pub mod Sorting

@@ -9,5 +9,6 @@ mod parts;
 mod plan;
 mod rows;
 mod search;
+mod sorting;
 
 pub use plan::{Node, Plan, Sources};

@@ -1,5 +1,5 @@
 //! A depth-first search of a graph with a stack of its own, so that nothing recurses.
-ghost use Rattle.std.specs.Prelude.{◌≡◌, ℕ, ◌+◌, ◌<◌, ◌≤◌, ◌++◌, ◌∷◌, ◌⊎◌, [], length, IfOk, OnOk, slice_get, Some};
+ghost use Rattle.std.specs.Prelude.{◌≡◌, ℕ, ◌+◌, ◌<◌, ◌≤◌, ◌++◌, ◌∷◌, ◌⊎◌, [], length, IfOk, OnOk, slice_get, Some, true, false};
 ghost use Rattle.driver_check.specs.Search.{AreFramesInside, AreInside, Has, IsNoNewer, IsSearch, IsSorted, Needs, Rows, WasSeen, row_of, size_of_graph};
 ghost use Rattle.driver_check.specs.declared.search.Mark.TheVariants as mark;
 ghost use Rattle.driver_check.specs.declared.search.Frame.{Frame as TheFrame};
@@ -44,6 +44,20 @@ fn mark_of(marks: &[Mark], vertex: usize) -> Mark
     ensures { slice_get marks.now vertex ≡ Some result }
 {
     marks[vertex]
+}
+
+/// Whether a vertex is stuck.
+pub fn is_stuck(marks: &[Mark], vertex: usize) -> bool
+    requires { vertex < length marks.now }
+    ensures yes { result ≡ true → Has marks.now mark.Stuck vertex }
+    ensures no { result ≡ false → Has marks.now mark.Stuck vertex → ⊥ }
+{
+    match mark_of(marks, vertex) {
+        Mark::Stuck => true,
+        Mark::New => false,
+        Mark::Open => false,
+        Mark::Done => false,
+    }
 }
 
 /// Marks the vertices of the stack as stuck.
