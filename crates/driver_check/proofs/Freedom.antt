@@ -1,11 +1,11 @@
 -- The bits that a search of a circuit's graph gets done are those that are free.
-use Rattle.std.proofs.Common.{◌≡◌, ◌≢◌, ℕ, zero, suc, ◌+◌, ◌-◌, ◌<◌, ◌≤◌, ◌⊎◌, List, [], ◌∷◌, ◌++◌, length, map, refl, sym, ◌∙◌, ap, subst, arith, inl, inr, Bool, true, false, cond, Option, Some, None, nat_lt}
+use Rattle.std.proofs.Common.{◌≡◌, ℕ, zero, suc, ◌+◌, ◌-◌, ◌<◌, ◌≤◌, ◌⊎◌, List, [], ◌∷◌, length, refl, sym, ◌∙◌, ap, subst, arith, inl, inr, true, Option, Some, None, nat_lt}
 use Rattle.std.specs.Prelude.{slice_get}
 use Rattle.std.specs.Option.{option_map}
 use Rattle.std.proofs.lemmas.Bool.{cases_lt, cond-true, cond-false, false≢true, lt-ltb, le-ltb}
 use Rattle.std.proofs.lemmas.Option.{slice_get-map}
 use Rattle.std.proofs.lemmas.List.{length-map}
-use Rattle.circuit.specs.Free.{IsDrivenOnce, IsFree, IsInOrder, free_within}
+use Rattle.circuit.specs.Free.{IsFree, free_within}
 use Rattle.circuit.specs.Valid.{is_valid}
 use Rattle.circuit.specs.Valuation.{drive_of}
 use Rattle.circuit.specs.declared.netlist.Circuit.{Circuit}
@@ -13,7 +13,6 @@ use Rattle.circuit.specs.declared.netlist.Drive.{Drive}
 use Rattle.circuit.proofs.Freed.{free_later}
 use Rattle.driver_check.specs.Depends.{Bit, DependsOn, DriveTakes, IsStuck}
 use Rattle.driver_check.specs.Numbers.{bit_count, IsBit, number_of}
-use Rattle.driver_check.specs.Ordered.{NodeReads}
 use Rattle.driver_check.specs.Search.{AreInside, Has, IsSorted, Needs, all_spans, one_span, row_of, size_of_graph}
 use Rattle.driver_check.specs.Vertices.{AreParts, IsGraphOf, IsPart, bit_span, node_spans, place_of}
 use Rattle.driver_check.specs.declared.graph.Span.{Span}
@@ -21,7 +20,7 @@ use Rattle.driver_check.specs.declared.graph.Graph.{Graph}
 use Rattle.driver_check.specs.declared.plan.Node.{Node}
 use Rattle.driver_check.specs.declared.search.Mark.{Mark}
 use Rattle.driver_check.specs.declared.search.Mark.TheVariants as mark
-use Rattle.driver_check.proofs.Places.{found, same, within}
+use Rattle.driver_check.proofs.Places.{found, within}
 use Rattle.driver_check.proofs.Numbered.{bit_at_number, bit_below}
 use Rattle.driver_check.proofs.Fitting.{drives_inside}
 use Rattle.driver_check.proofs.Owned.{covered_is_bit}

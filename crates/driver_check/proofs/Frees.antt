@@ -1,8 +1,7 @@
 -- A bit is free where all that it depends on is.
-use Rattle.std.proofs.Common.{◌≡◌, ℕ, zero, suc, ◌+◌, ◌-◌, ◌<◌, ◌≤◌, ◌⊎◌, List, [], ◌∷◌, refl, sym, ◌∙◌, ap, subst, arith, inl, inr, Bool, true, false, ◌&&◌, ◌||◌, Option, Some, None}
+use Rattle.std.proofs.Common.{◌≡◌, ℕ, suc, ◌+◌, ◌-◌, refl, subst, inl, inr, Bool, true, false, ◌&&◌, ◌||◌, Option, Some, None}
 use Rattle.std.specs.Prelude.{slice_get}
-use Rattle.std.proofs.lemmas.Bool.{and_parts, and_from, cases_Bool}
-use Rattle.circuit.specs.Signal.{Reads}
+use Rattle.std.proofs.lemmas.Bool.{and_parts, and_from}
 use Rattle.circuit.specs.Valuation.{drive_of}
 use Rattle.circuit.specs.Free.{Test, by_free, cell_free, drive_free, free_within, port_free, read_free, sig_free}
 use Rattle.circuit.specs.declared.netlist.Circuit.{Circuit}

@@ -7,3 +7,5 @@ pub mod Placed
 pub mod Frees
 pub mod Linked
 pub mod Freedom
+pub mod Nexts
+pub mod Walked

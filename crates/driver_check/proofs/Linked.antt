@@ -1,13 +1,8 @@
 -- The graph of a circuit says what its bits depend on.
-use Rattle.std.proofs.Common.{◌≡◌, ◌≢◌, ℕ, zero, suc, ◌+◌, ◌-◌, ◌<◌, ◌≤◌, ◌⊎◌, List, [], ◌∷◌, ◌++◌, length, map, refl, sym, ◌∙◌, ap, subst, arith, inl, inr, Bool, true, false, cond, Option, Some, None, nat_lt, length-append}
+use Rattle.std.proofs.Common.{◌≡◌, ℕ, zero, suc, ◌+◌, ◌-◌, ◌<◌, ◌≤◌, ◌⊎◌, List, [], ◌∷◌, ◌++◌, refl, sym, ◌∙◌, ap, subst, arith, inl, inr, Bool, true, Option, Some, None}
 use Rattle.std.specs.Prelude.{slice_get, find}
-use Rattle.std.specs.List.{flat_map}
-use Rattle.std.specs.Option.{option_map}
-use Rattle.std.proofs.lemmas.Bool.{cases_Bool, cases_lt, cond-true, cond-false, lt-ltb, le-ltb, ltb-true}
-use Rattle.std.proofs.lemmas.Option.{slice_get-map}
-use Rattle.std.proofs.lemmas.List.{length-map}
+use Rattle.std.proofs.lemmas.Bool.{cases_Bool, cond-true, cond-false}
 use Rattle.circuit.specs.Signal.{Reads}
-use Rattle.circuit.specs.Output.{ReadsBit}
 use Rattle.circuit.specs.Valuation.{covers, drive_of}
 use Rattle.circuit.specs.Valid.{drive_fits, is_valid}
 use Rattle.circuit.specs.declared.netlist.Circuit.{Circuit}
@@ -23,27 +18,25 @@ use Rattle.circuit.specs.declared.memory.ReadPort.{ReadPort}
 use Rattle.driver_check.specs.Depends.{Bit, CellReads, DependsOn, DriveTakes, MemReads, PortReads, TakesBit}
 use Rattle.driver_check.specs.Numbers.{before, bit_count, IsBit, number_of, width_of}
 use Rattle.driver_check.specs.Ordered.{NodeReads}
-use Rattle.driver_check.specs.Search.{AreInside, Needs, all_spans, one_span, row_of, size_of_graph}
-use Rattle.driver_check.specs.Vertices.{AreParts, IsGraphOf, IsPart, bit_span, by_span, cell_spans, drive_span, mem_spans, node_spans, nothing, piece_spans, place_of, port_spans, sig_spans, span_of}
+use Rattle.driver_check.specs.Search.{Needs}
+use Rattle.driver_check.specs.Vertices.{IsPart, bit_span, by_span, cell_spans, drive_span, mem_spans, node_spans, nothing, place_of, port_spans, sig_spans, span_of}
 use Rattle.driver_check.specs.declared.graph.Span.{Span}
-use Rattle.driver_check.specs.declared.graph.Graph.{Graph}
 use Rattle.driver_check.specs.declared.plan.Node.{Node}
 use Rattle.driver_check.specs.declared.plan.Node.TheVariants as node
-use Rattle.driver_check.proofs.Places.{found, kept, same, within}
-use Rattle.driver_check.proofs.Numbered.{bit_at_number, bit_below}
-use Rattle.driver_check.proofs.Fitting.{cell_bits, cell_there, drive_fits_at, drives_inside, port_bits, port_there, wire_there}
-use Rattle.driver_check.proofs.Owned.{covered_is_bit, covers_parts}
+use Rattle.driver_check.proofs.Places.{kept}
+use Rattle.driver_check.proofs.Fitting.{cell_bits, cell_there, drive_fits_at, port_bits, port_there, wire_there}
+use Rattle.driver_check.proofs.Owned.{covers_parts}
 
 -- ---- spans
 
-needs_left : (xs ys : List Span) (w : ℕ) → Needs xs w → Needs (xs ++ ys) w
+pub needs_left : (xs ys : List Span) (w : ℕ) → Needs xs w → Needs (xs ++ ys) w
 needs_left xs ys w n = (n.0, n.1, kept xs ys n.0 n.1 n.2, n.3, n.4)
 
 behind : {X : Type 0} (xs ys : List X) (i : ℕ) (x : X) → slice_get ys i ≡ Some x → (j : ℕ) × (slice_get (xs ++ ys) j ≡ Some x)
 behind [] ys i x e = (i, e)
 behind (z ∷ xs) ys i x e = let r = behind xs ys i x e in (suc r.0, r.1)
 
-needs_right : (xs ys : List Span) (w : ℕ) → Needs ys w → Needs (xs ++ ys) w
+pub needs_right : (xs ys : List Span) (w : ℕ) → Needs ys w → Needs (xs ++ ys) w
 needs_right xs ys w n = let r = behind xs ys n.0 n.1 n.2 in (r.0, n.1, r.1, n.3, n.4)
 
 either : {X : Type 0} (xs ys : List X) (i : ℕ) (x : X) → slice_get (xs ++ ys) i ≡ Some x → (slice_get xs i ≡ Some x) ⊎ ((j : ℕ) × (slice_get ys j ≡ Some x))
@@ -51,13 +44,13 @@ either [] ys i x e = inr (i, e)
 either (z ∷ xs) ys zero x e = inl e
 either (z ∷ xs) ys (suc i) x e = either xs ys i x e
 
-needs_either : (xs ys : List Span) (w : ℕ) → Needs (xs ++ ys) w → Needs xs w ⊎ Needs ys w
+pub needs_either : (xs ys : List Span) (w : ℕ) → Needs (xs ++ ys) w → Needs xs w ⊎ Needs ys w
 needs_either xs ys w n = elim (either xs ys n.0 n.1 n.2) [
   | inl h ↦ inl (n.0, n.1, h, n.3, n.4)
   | inr h ↦ inr (h.0, n.1, h.1, n.3, n.4)
 ]
 
-needs_none : (w : ℕ) → Needs [] w → ⊥
+pub needs_none : (w : ℕ) → Needs [] w → ⊥
 needs_none w n = let e : slice_get [] n.0 ≡ Some n.1 = n.2 in cc e
 
 pub needs_one : (s : Span) (w : ℕ) → Needs (s ∷ []) w → (s.first ≤ w) × (w < s.first + s.width)

@@ -1,12 +1,12 @@
 -- Numbers of bits: each bit has one of its own, and they rise by net and by bit.
-use Rattle.std.proofs.Common.{◌≡◌, ◌≢◌, ℕ, zero, suc, ◌+◌, ◌-◌, ◌*◌, ◌<◌, ◌≤◌, ◌⊎◌, List, [], ◌∷◌, length, refl, sym, ◌∙◌, ap, subst, arith, inl, inr, Some, mul-suc}
+use Rattle.std.proofs.Common.{◌≡◌, ℕ, zero, suc, ◌+◌, ◌-◌, ◌*◌, ◌<◌, ◌≤◌, List, [], ◌∷◌, length, refl, ◌∙◌, ap, arith, inl, inr, Some, mul-suc}
 use Rattle.std.specs.Prelude.{slice_get}
-use Rattle.std.proofs.lemmas.Bool.{cases_eq, cases_lt}
+use Rattle.std.proofs.lemmas.Bool.{cases_lt}
 use Rattle.circuit.specs.declared.netlist.Drive.{Drive}
 use Rattle.circuit.specs.declared.netlist.Net.{Net}
 use Rattle.driver_check.specs.Depends.{Bit, IsBefore}
 use Rattle.driver_check.specs.Numbers.{before, bit_count, IsBit, IsInsideNet, number_of, start_of, width_of}
-use Rattle.driver_check.proofs.Places.{same, within}
+use Rattle.driver_check.proofs.Places.{within}
 
 pub before_zero : {X : Type 0} (size : X → ℕ) (xs : List X) → before size xs 0 ≡ 0
 before_zero size [] = refl

@@ -7,12 +7,12 @@ use Rattle.circuit.specs.Valuation.{covers, drive_of}
 use Rattle.circuit.specs.declared.netlist.Circuit.{Circuit}
 use Rattle.circuit.specs.declared.netlist.Drive.{Drive}
 use Rattle.circuit.specs.declared.netlist.Net.{Net}
-use Rattle.driver_check.specs.Depends.{Bit, IsBefore}
+use Rattle.driver_check.specs.Depends.{Bit}
 use Rattle.driver_check.specs.Faults.{Covers, IsFirstShared, IsShared}
 use Rattle.driver_check.specs.Numbers.{before, bit_count, IsBit, IsIn, number_of, start_of, width_of}
 use Rattle.driver_check.specs.Owners.{AreOwners, IsLeastShared, IsNextCover, IsOwner}
 use Rattle.driver_check.proofs.Places.{same, within}
-use Rattle.driver_check.proofs.Numbered.{before_later, bit_below, number_once, number_order}
+use Rattle.driver_check.proofs.Numbered.{bit_below, number_once, number_order}
 
 -- ---- the bits of a drive
 

@@ -1,14 +1,13 @@
 -- The places of cells and read ports.
-use Rattle.std.proofs.Common.{◌≡◌, ◌≢◌, ℕ, zero, suc, ◌+◌, ◌-◌, ◌<◌, ◌≤◌, ◌⊎◌, List, [], ◌∷◌, ◌++◌, length, refl, sym, ◌∙◌, ap, subst, arith, inl, inr, Some}
+use Rattle.std.proofs.Common.{◌≡◌, ℕ, ◌+◌, ◌<◌, List, [], ◌∷◌, ◌++◌, length, sym, ◌∙◌, ap, subst, arith, inl, inr, Some}
 use Rattle.std.specs.Prelude.{slice_get}
 use Rattle.std.proofs.lemmas.Bool.{cases_lt}
 use Rattle.circuit.specs.declared.netlist.Circuit.{Circuit}
-use Rattle.circuit.specs.declared.memory.Mem.{Mem}
 use Rattle.driver_check.specs.Numbers.{before, ports_of}
-use Rattle.driver_check.specs.Vertices.{ArePlaced, AreParts, IsPart, place_of}
+use Rattle.driver_check.specs.Vertices.{ArePlaced, IsPart, place_of}
 use Rattle.driver_check.specs.declared.plan.Node.{Node}
 use Rattle.driver_check.specs.declared.plan.Node.TheVariants as node
-use Rattle.driver_check.proofs.Places.{found, pushed, same, within}
+use Rattle.driver_check.proofs.Places.{found, pushed, within}
 use Rattle.driver_check.proofs.Numbered.{before_later}
 
 -- a part of a part is that of one part alone

@@ -1,5 +1,6 @@
 -- What the two faults of a design's drives say.
-use Rattle.std.specs.Prelude.{◌≡◌, ℕ, suc, ◌<◌, ◌≤◌, List, [], ◌∷◌, length, drop, map, Option, Some, None, true, slice_get}
+use Rattle.std.specs.Prelude.{◌≡◌, ℕ, suc, ◌<◌, ◌⊎◌, List, [], ◌∷◌, length, drop, map, Option, Some, None, true, slice_get}
+use Rattle.circuit.specs.Free.{IsDrivenOnce}
 use Rattle.circuit.specs.Valuation.{covers}
 use Rattle.circuit.specs.declared.netlist.Circuit.{Circuit}
 use Rattle.circuit.specs.declared.netlist.Drive.{Drive}
@@ -76,3 +77,7 @@ pub record SaysLoop (c : Circuit) (fault : DesignFault) : Type 0 where
   pub again : ℕ
   pub walked : IsWalk c walk again
   pub is : fault ≡ says_loop c (drop again walk)
+
+-- why a circuit has no order: two drives share a bit, or none do and a bit depends on itself
+abbrev pub SaysFault : Circuit → DesignFault → Type 0
+SaysFault c fault = SaysTwoDrivers c fault ⊎ (IsDrivenOnce c × SaysLoop c fault)

@@ -6,3 +6,4 @@ pub mod Numbers
 pub mod Owners
 pub mod Vertices
 pub mod Sorting
+pub mod Walking

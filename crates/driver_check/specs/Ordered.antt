@@ -1,5 +1,5 @@
 -- A plan in order: each node stands behind all that it depends on, and each root names where its bits come from.
-use Rattle.std.specs.Prelude.{◌≡◌, ℕ, zero, suc, ◌+◌, ◌-◌, ◌<◌, ◌↔◌, List, [], ◌∷◌, length, true, false, Option, Some, None, slice_get, slice_index}
+use Rattle.std.specs.Prelude.{◌≡◌, ℕ, zero, suc, ◌+◌, ◌-◌, ◌<◌, ◌↔◌, List, length, true, false, Option, Some, None, slice_get}
 use Rattle.std.specs.Int.{bit_at}
 use Rattle.circuit.specs.Valuation.{covers, drive_of}
 use Rattle.circuit.specs.Valid.{drive_fits}

@@ -1,8 +1,7 @@
 -- A circuit whose bits have one drive each, sorted.
-use Rattle.std.specs.Prelude.{◌≡◌, ℕ, ◌<◌, length, Some, slice_get}
+use Rattle.std.specs.Prelude.{◌≡◌, ℕ, ◌<◌, length}
 use Rattle.circuit.specs.Free.{IsDrivenOnce}
 use Rattle.circuit.specs.declared.netlist.Circuit.{Circuit}
-use Rattle.driver_check.specs.Depends.{Bit}
 use Rattle.driver_check.specs.Numbers.{IsNumbering}
 use Rattle.driver_check.specs.Owners.{AreOwners}
 use Rattle.driver_check.specs.Search.{Has, IsSorted, row_of, size_of_graph}

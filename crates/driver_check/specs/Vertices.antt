@@ -1,5 +1,5 @@
 -- The graph of a circuit: what each bit and each node needs.
-use Rattle.std.specs.Prelude.{◌≡◌, ℕ, zero, suc, ◌+◌, ◌-◌, ◌<◌, List, [], ◌∷◌, ◌++◌, length, map, Option, Some, None, slice_get, slice_index, if◌then◌else◌}
+use Rattle.std.specs.Prelude.{◌≡◌, ℕ, ◌+◌, ◌-◌, ◌<◌, List, [], ◌∷◌, ◌++◌, length, map, Option, Some, None, slice_get, slice_index, if◌then◌else◌}
 use Rattle.std.specs.List.{flat_map}
 use Rattle.circuit.specs.Valuation.{drive_of}
 use Rattle.circuit.specs.declared.netlist.Circuit.{Circuit}
@@ -15,7 +15,6 @@ use Rattle.circuit.specs.declared.memory.ReadPort.{ReadPort}
 use Rattle.driver_check.specs.Depends.{Bit}
 use Rattle.driver_check.specs.Numbers.{IsBit, before, bit_count, number_of, ports_of, width_of}
 use Rattle.driver_check.specs.declared.graph.Span.{Span}
-use Rattle.driver_check.specs.declared.graph.Graph.{Graph}
 use Rattle.driver_check.specs.declared.plan.Node.{Node}
 use Rattle.driver_check.specs.declared.plan.Node.TheVariants as node
 

@@ -29,7 +29,7 @@ pub fn bit_of(circuit: &Circuit, numbering: &Numbering, place: usize, number: us
 
 /// A bit, with the path of its net.
 pub fn named_bit(alloc: Global, circuit: &Circuit, bit: (u32, u32)) -> Result<BitAt, NoMemory>
-    ensures { IfOk result (λ b. b ≡ named circuit.now (bit.0, bit.1)) }
+    ensures { IfOk result (λ b. b ≡ named circuit.now bit) }
 {
     let net = match circuit.nets.get(bit.0 as usize) {
         Some(net) => Name::copy_of(alloc, net.path.as_bytes())?,
@@ -46,7 +46,7 @@ fn shared_fault(
     first: usize,
     second: usize,
 ) -> Result<DesignFault, NoMemory>
-    ensures { IfOk result (λ f. f ≡ says_two_drivers circuit.now (bit.0, bit.1) first second) }
+    ensures { IfOk result (λ f. f ≡ says_two_drivers circuit.now bit first second) }
 {
     let mut bits = Items::new(alloc);
     bits.push(named_bit(alloc, circuit, bit)?)?;

@@ -5,10 +5,13 @@ mod drivers;
 mod faults;
 mod graph;
 mod numbering;
+mod order;
 mod parts;
 mod plan;
 mod rows;
 mod search;
 mod sorting;
+mod walk;
 
+pub use order::check;
 pub use plan::{Node, Plan, Sources};

@@ -1,11 +1,11 @@
-use Rattle.std.proofs.Common.{◌≡◌, ◌≢◌, ℕ, ◌+◌, ◌<◌, ◌≤◌, ◌⊎◌, List, length, sym, ◌∙◌, ap, subst, arith, Some, get_or}
+use Rattle.std.proofs.Common.{◌≡◌, ◌≢◌, ℕ, ◌≤◌, ◌⊎◌, List, length, sym, ◌∙◌, ap, subst, arith, Some}
 use Rattle.std.specs.Prelude.{slice_get, slice_index}
 use Rattle.circuit.specs.declared.netlist.Drive.{Drive}
 use Rattle.circuit.specs.declared.netlist.Net.{Net}
-use Rattle.driver_check.specs.Numbers.{IsIn, IsInsideNet, bit_count, start_of}
+use Rattle.driver_check.specs.Numbers.{IsIn, IsInsideNet, start_of}
 use Rattle.driver_check.specs.Owners.{IsLeastShared}
 use Rattle.driver_check.proofs.Places.{read}
-use Rattle.driver_check.proofs.Fitting.{bits_bound, drives_inside}
+use Rattle.driver_check.proofs.Fitting.{drives_inside}
 use Rattle.driver_check.proofs.Owned.{shared_more}
 use Rattle.driver_check.proofs.drivers.least_shared.Goals as goal
 

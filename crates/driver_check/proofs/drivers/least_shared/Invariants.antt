@@ -1,4 +1,3 @@
-use Rattle.std.proofs.Common.{◌≡◌, length}
 use Rattle.driver_check.specs.Owners.{IsLeastShared}
 use Rattle.driver_check.proofs.drivers.least_shared.Given as goal
 

@@ -1,4 +1,4 @@
-use Rattle.std.proofs.Common.{◌≡◌, ℕ, ◌+◌, ◌<◌, ◌≤◌, List, length, replicate, sym, ◌∙◌, ap, subst, arith, cond, Some, nat_le, nat_lt}
+use Rattle.std.proofs.Common.{◌≡◌, ℕ, ◌+◌, List, length, replicate, sym, ◌∙◌, ap, subst, arith, cond, Some, nat_le, nat_lt}
 use Rattle.std.proofs.lemmas.List.{get_or-replicate}
 use Rattle.std.specs.Prelude.{slice_get, slice_index, ◌&&◌, ◌==◌}
 use Rattle.circuit.specs.declared.netlist.Drive.{Drive}

@@ -1,4 +1,4 @@
-use Rattle.std.proofs.Common.{◌≡◌, ℕ, ◌+◌, ◌<◌}
+use Rattle.std.proofs.Common.{◌≡◌, ℕ}
 use Rattle.std.specs.Prelude.{slice_index}
 use Rattle.driver_check.specs.Numbers.{IsIn}
 use Rattle.driver_check.proofs.drivers.shared_within.Given as goal

@@ -1,10 +1,8 @@
-use Rattle.std.proofs.Common.{◌≡◌, ℕ, ◌+◌, ◌-◌, ◌<◌, ◌≤◌, List, length, sym, ap, subst, arith, ◌∙◌, refl, Some, true}
+use Rattle.std.proofs.Common.{◌≡◌, ◌+◌, ◌-◌, List, length, ap, subst, arith, ◌∙◌, refl, Some}
 use Rattle.std.specs.Prelude.{slice_get}
 use Rattle.std.proofs.lemmas.List.{get_or_read}
-use Rattle.circuit.specs.Valuation.{covers}
-use Rattle.circuit.specs.declared.netlist.Circuit.{Circuit}
 use Rattle.circuit.specs.declared.netlist.Drive.{Drive}
-use Rattle.driver_check.specs.Numbers.{IsIn, before, start_of, width_of}
+use Rattle.driver_check.specs.Numbers.{before, width_of}
 use Rattle.driver_check.proofs.Places.{read, within}
 use Rattle.driver_check.proofs.Fitting.{drives_inside, net_width}
 use Rattle.driver_check.proofs.Owned.{covers_from}

@@ -1,8 +1,7 @@
-use Rattle.std.proofs.Common.{◌≡◌, ℕ, ◌+◌, ◌<◌, List, ◌++◌, ◌∷◌, [], length, sym, ap, subst, arith, ◌∙◌, Some}
+use Rattle.std.proofs.Common.{◌≡◌, ℕ, ◌+◌, List, length, ap, subst, arith, ◌∙◌, Some}
 use Rattle.std.specs.Prelude.{slice_get}
 use Rattle.circuit.specs.declared.memory.Mem.{Mem}
 use Rattle.driver_check.specs.Numbers.{before, ports_of}
-use Rattle.driver_check.specs.Vertices.{ArePlaced}
 use Rattle.driver_check.proofs.Places.{read}
 use Rattle.driver_check.proofs.Fitting.{port_count}
 use Rattle.driver_check.proofs.Numbered.{before_zero}

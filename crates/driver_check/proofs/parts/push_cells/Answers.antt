@@ -1,4 +1,4 @@
-use Rattle.std.proofs.Common.{◌≡◌, ℕ, ◌+◌, List, ◌++◌, ◌∷◌, [], length, sym, ap, subst, arith, ◌∙◌}
+use Rattle.std.proofs.Common.{◌≡◌, ℕ, ◌+◌, List, ◌++◌, ◌∷◌, [], sym, ap, subst, arith, ◌∙◌}
 use Rattle.driver_check.specs.Vertices.{ArePlaced}
 use Rattle.driver_check.specs.declared.plan.Node.{Node}
 use Rattle.driver_check.specs.declared.plan.Node.TheVariants as node

@@ -1,9 +1,9 @@
-use Rattle.std.proofs.Common.{◌≡◌, ℕ, ◌+◌, List, ◌++◌, ◌∷◌, [], length, sym, ap, subst, arith, ◌∙◌}
-use Rattle.driver_check.specs.Numbers.{before, ports_of}
+use Rattle.std.proofs.Common.{◌≡◌, List, ◌++◌, ◌∷◌, [], sym, subst, arith}
+use Rattle.driver_check.specs.Numbers.{ports_of}
 use Rattle.driver_check.specs.Vertices.{ArePlaced}
 use Rattle.driver_check.specs.declared.plan.Node.{Node}
 use Rattle.driver_check.specs.declared.plan.Node.TheVariants as node
-use Rattle.driver_check.proofs.Places.{length_pushed, within}
+use Rattle.driver_check.proofs.Places.{length_pushed}
 use Rattle.driver_check.proofs.Numbered.{before_next}
 use Rattle.driver_check.proofs.Placed.{placed_more}
 use Rattle.driver_check.proofs.parts.push_ports.Goals as goal

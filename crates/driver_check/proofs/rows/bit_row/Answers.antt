@@ -1,8 +1,8 @@
-use Rattle.std.proofs.Common.{◌≡◌, ℕ, ◌+◌, ◌-◌, ◌<◌, ◌≤◌, List, length, sym, ◌∙◌, ap, subst, arith, Some, None, Option}
+use Rattle.std.proofs.Common.{◌≡◌, ℕ, ◌-◌, ◌≤◌, List, length, sym, ◌∙◌, ap, subst, arith, Some, Option}
 use Rattle.std.specs.Prelude.{slice_get, slice_index}
 use Rattle.circuit.specs.declared.netlist.Drive.{Drive}
 use Rattle.circuit.specs.declared.netlist.Net.{Net}
-use Rattle.driver_check.specs.Numbers.{IsInsideNet, bit_count, number_of, start_of}
+use Rattle.driver_check.specs.Numbers.{IsInsideNet, number_of, start_of}
 use Rattle.driver_check.specs.Owners.{IsOwner}
 use Rattle.driver_check.specs.Vertices.{by_span, drive_span}
 use Rattle.driver_check.proofs.Places.{read}

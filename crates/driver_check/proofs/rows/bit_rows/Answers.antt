@@ -1,10 +1,4 @@
-use Rattle.std.proofs.Common.{◌≡◌, ℕ, ◌+◌, ◌<◌, List, ◌++◌, ◌∷◌, [], length, sym, ◌∙◌, ap, subst, arith, Some, inl, inr}
-use Rattle.std.specs.Prelude.{slice_get}
-use Rattle.std.proofs.lemmas.Bool.{cases_eq}
-use Rattle.driver_check.specs.Numbers.{number_of}
-use Rattle.driver_check.specs.Vertices.{bit_span}
-use Rattle.driver_check.specs.declared.graph.Span.{Span}
-use Rattle.driver_check.proofs.Places.{kept, last, length_pushed}
+use Rattle.std.proofs.Common.{◌≡◌, ◌∙◌, arith}
 use Rattle.driver_check.proofs.Numbered.{bit_below}
 use Rattle.driver_check.proofs.rows.bit_rows.Goals as goal
 

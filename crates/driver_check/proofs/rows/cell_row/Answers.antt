@@ -1,4 +1,4 @@
-use Rattle.std.proofs.Common.{◌≡◌, List, true, sym, ◌∙◌, ap, subst}
+use Rattle.std.proofs.Common.{◌≡◌, List, true, sym, subst}
 use Rattle.std.specs.List.{list_all}
 use Rattle.circuit.specs.Valid.{piece_fits}
 use Rattle.circuit.specs.declared.netlist.Piece.{Piece}

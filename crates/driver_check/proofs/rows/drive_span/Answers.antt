@@ -1,10 +1,9 @@
-use Rattle.std.proofs.Common.{◌≡◌, ℕ, ◌+◌, ◌*◌, ◌^◌, ◌<◌, ◌≤◌, List, length, sym, ◌∙◌, ap, subst, arith, Some}
+use Rattle.std.proofs.Common.{◌≡◌, ℕ, ◌+◌, ◌*◌, ◌^◌, ◌≤◌, List, length, sym, ◌∙◌, ap, subst, arith, Some}
 use Rattle.std.specs.Prelude.{slice_get}
 use Rattle.circuit.specs.declared.netlist.By.{By}
 use Rattle.circuit.specs.declared.netlist.Net.{Net}
 use Rattle.driver_check.specs.Numbers.{before, bit_count, width_of}
 use Rattle.driver_check.specs.Vertices.{by_span, place_of, span_of}
-use Rattle.driver_check.specs.declared.graph.Span.{Span}
 use Rattle.driver_check.specs.declared.plan.Node.TheVariants as node
 use Rattle.driver_check.proofs.Fitting.{bits_bound, cell_count, cell_there, net_width, port_there, wire_there}
 use Rattle.driver_check.proofs.rows.drive_span.Goals as goal

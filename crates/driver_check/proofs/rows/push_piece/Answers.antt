@@ -1,11 +1,10 @@
-use Rattle.std.proofs.Common.{◌≡◌, ℕ, ◌+◌, ◌*◌, ◌^◌, ◌<◌, ◌≤◌, List, ◌++◌, ◌∷◌, [], length, sym, ◌∙◌, ap, subst, arith, Some, true}
+use Rattle.std.proofs.Common.{◌≡◌, ℕ, ◌+◌, ◌*◌, ◌^◌, ◌≤◌, List, ◌++◌, ◌∷◌, [], length, sym, ◌∙◌, ap, subst, arith, Some}
 use Rattle.std.specs.Prelude.{slice_get}
-use Rattle.circuit.specs.Valid.{net_holds, piece_fits}
+use Rattle.circuit.specs.Valid.{piece_fits}
 use Rattle.circuit.specs.declared.netlist.Net.{Net}
 use Rattle.circuit.specs.declared.netlist.Piece.{Piece}
 use Rattle.driver_check.specs.Numbers.{before, bit_count, width_of}
 use Rattle.driver_check.specs.Vertices.{piece_spans, span_of}
-use Rattle.driver_check.specs.declared.graph.Span.{Span}
 use Rattle.driver_check.proofs.Fitting.{bits_bound, holds_net}
 use Rattle.driver_check.proofs.rows.push_piece.Goals as goal
 

@@ -1,6 +1,6 @@
-use Rattle.std.proofs.Common.{◌≡◌, ℕ, ◌+◌, ◌<◌, ◌≤◌, length, sym, ◌∙◌, ap, arith}
+use Rattle.std.proofs.Common.{ℕ, ◌+◌, length, ◌∙◌, ap, arith}
 use Rattle.std.proofs.lemmas.List.{get_or_read}
-use Rattle.driver_check.specs.Numbers.{before, width_of}
+use Rattle.driver_check.specs.Numbers.{width_of}
 use Rattle.driver_check.proofs.Places.{within}
 use Rattle.driver_check.proofs.Numbered.{before_later}
 use Rattle.driver_check.proofs.numbering.Numbering.number.Goals as goal

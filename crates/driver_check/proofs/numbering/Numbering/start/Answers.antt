@@ -1,6 +1,5 @@
-use Rattle.std.proofs.Common.{◌≡◌, ℕ, ◌+◌, ◌<◌, ◌≤◌, length, sym, ◌∙◌, ap, arith}
+use Rattle.std.proofs.Common.{ℕ, ◌+◌, ◌∙◌, ap, arith}
 use Rattle.std.proofs.lemmas.List.{get_or_read}
-use Rattle.driver_check.specs.Numbers.{before, start_of, width_of}
 use Rattle.driver_check.proofs.Places.{within}
 use Rattle.driver_check.proofs.Numbered.{start_inside}
 use Rattle.driver_check.proofs.numbering.Numbering.start.Goals as goal

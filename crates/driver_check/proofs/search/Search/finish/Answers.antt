@@ -1,4 +1,4 @@
-use Rattle.std.proofs.Common.{◌≡◌, ℕ, List, ◌++◌, ◌∷◌, [], set, inl, inr, sym, ap, ◌∙◌, subst}
+use Rattle.std.proofs.Common.{ℕ, List, set, sym, subst}
 use Rattle.driver_check.specs.Search.{IsSearch}
 use Rattle.driver_check.specs.declared.search.Mark.TheVariants as mark
 use Rattle.driver_check.proofs.Steps.{finished, newer_set}

@@ -1,4 +1,4 @@
-use Rattle.std.proofs.Common.{◌≡◌, ℕ, ◌+◌, List, length, ◌++◌, ◌∷◌, [], sym, ap, ◌∙◌, subst, refl, inl, inr, Some}
+use Rattle.std.proofs.Common.{◌≡◌, ℕ, ◌+◌, List, length, sym, ap, ◌∙◌, subst, refl, inl, inr, Some}
 use Rattle.std.specs.Prelude.{slice_get}
 use Rattle.driver_check.specs.Search.{Has, IsSearch}
 use Rattle.driver_check.specs.declared.search.Frame.{Frame}

@@ -1,9 +1,8 @@
-use Rattle.std.proofs.Common.{◌≡◌, ℕ, ◌<◌, List, ◌++◌, ◌∷◌, [], length, sym, subst, arith}
-use Rattle.driver_check.specs.Search.{AreFramesInside, IsSearch, Needs, row_of}
+use Rattle.std.proofs.Common.{List, ◌++◌, ◌∷◌, [], length, subst, arith}
+use Rattle.driver_check.specs.Search.{AreFramesInside, Needs, row_of}
 use Rattle.driver_check.specs.declared.graph.Span.{Span}
 use Rattle.driver_check.specs.declared.search.Frame.{Frame}
-use Rattle.driver_check.specs.declared.search.Mark.TheVariants as mark
-use Rattle.driver_check.proofs.Places.{last, within}
+use Rattle.driver_check.proofs.Places.{last}
 use Rattle.driver_check.proofs.Steps.{frames_inside}
 use Rattle.driver_check.proofs.search.Search.step.Goals as goal
 

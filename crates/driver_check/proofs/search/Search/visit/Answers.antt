@@ -1,8 +1,7 @@
-use Rattle.std.proofs.Common.{◌≡◌, ℕ, List, ◌++◌, ◌∷◌, [], set, sym, ap, ◌∙◌, subst, length-set}
+use Rattle.std.proofs.Common.{◌≡◌, List, ◌++◌, ◌∷◌, [], set, sym, ap, ◌∙◌, subst, length-set}
 use Rattle.driver_check.specs.Search.{IsSearch, row_of}
 use Rattle.driver_check.specs.declared.search.Frame.{Frame}
 use Rattle.driver_check.specs.declared.search.Mark.TheVariants as mark
-use Rattle.driver_check.proofs.Places.{same, set_same, within}
 use Rattle.driver_check.proofs.Steps.{new_frame, newer_set, not_new, started}
 use Rattle.driver_check.proofs.search.Search.visit.Goals as goal
 

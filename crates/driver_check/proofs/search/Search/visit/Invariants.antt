@@ -1,4 +1,4 @@
-use Rattle.std.proofs.Common.{◌≡◌, ◌<◌, length}
+use Rattle.std.proofs.Common.{◌≡◌, length}
 use Rattle.driver_check.specs.Search.{Has, IsNoNewer, IsSearch, row_of}
 use Rattle.driver_check.specs.declared.search.Mark.TheVariants as mark
 use Rattle.driver_check.proofs.search.Search.visit.Given as goal

@@ -1,4 +1,4 @@
-use Rattle.std.proofs.Common.{◌≡◌, ℕ, ◌<◌, ◌≤◌, List, sym, ap, subst, arith, inl, inr}
+use Rattle.std.proofs.Common.{ℕ, List, sym, subst, arith, inl, inr}
 use Rattle.std.proofs.lemmas.Bool.{cases_eq}
 use Rattle.driver_check.specs.Search.{Has}
 use Rattle.driver_check.specs.declared.search.Mark.{Mark}

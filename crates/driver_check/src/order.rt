@@ -1,0 +1,71 @@
+//! The order of a circuit, or why it has none.
+ghost use Rattle.std.specs.Prelude.{◌≡◌, ◌⊎◌, IfErr, IfOk, MatchResult, OnOk, true};
+ghost use Rattle.circuit.specs.Free.{IsDrivenOnce, IsInOrder};
+ghost use Rattle.circuit.specs.Valid.{is_valid};
+ghost use Rattle.circuit.specs.declared.fault.DesignKind.TheVariants as kind;
+ghost use Rattle.driver_check.specs.Faults.{SaysFault, SaysLoop, SaysTwoDrivers};
+ghost use Rattle.driver_check.specs.Sorting.{IsSorting};
+
+use crate::sorting::{Sorting, sort_circuit};
+use crate::walk::comb_loop;
+use circuit::{Circuit, DesignFault, DesignKind};
+use sim_base::{Name, NoMemory};
+use sqlite_items::Items;
+use std::alloc::Global;
+
+/// Sorts a circuit in which each bit has one driver and none depends on itself.
+fn sort_in_order(alloc: Global, circuit: &Circuit) -> Result<Result<Sorting, DesignFault>, NoMemory>
+    requires { is_valid circuit.now ≡ true }
+    ensures { IfOk result (λ r. MatchResult r (λ s. IsSorting circuit.now s × IsInOrder circuit.now) (λ f. SaysFault circuit.now f)) }
+{
+    match sort_circuit(alloc, circuit)? {
+        Ok(sorting) => without_loop(alloc, circuit, sorting),
+        Err(fault) => Ok(Err(fault)),
+    }
+}
+
+/// The sorting, unless some bit depends on itself.
+fn without_loop(
+    alloc: Global,
+    circuit: &Circuit,
+    sorting: Sorting,
+) -> Result<Result<Sorting, DesignFault>, NoMemory>
+    requires valid { is_valid circuit.now ≡ true }
+    requires sorting { IsSorting circuit.now sorting }
+    ensures { IfOk result (λ r. MatchResult r (λ s. IsSorting circuit.now s × IsInOrder circuit.now) (λ f. SaysFault circuit.now f)) }
+{
+    let first = sorting.first_stuck(circuit);
+    if first < sorting.numbering.bits {
+        let fault = comb_loop(alloc, circuit, &sorting, first)?;
+        return Ok(Err(fault));
+    }
+    Ok(Ok(sorting))
+}
+
+fn no_memory(alloc: Global) -> DesignFault
+    ensures { result.kind ≡ kind.NoMemory }
+{
+    DesignFault {
+        kind: DesignKind::NoMemory,
+        place: Name::new(Vec::new(alloc)),
+        bits: Items::new(alloc),
+        drives: Items::new(alloc),
+    }
+}
+
+/// Checks that each bit of a circuit has one driver at most and that none depends on itself. The time and
+/// the memory are in proportion to the bits of the nets, the drives, and the bits that cells and read
+/// ports read; nothing recurses.
+pub fn check(alloc: Global, circuit: &Circuit) -> Result<(), DesignFault>
+    requires { is_valid circuit.now ≡ true }
+    ensures order { OnOk result (IsInOrder circuit.now) }
+    ensures two_drivers { IfErr result (λ f. f.kind ≡ kind.TwoDrivers → SaysTwoDrivers circuit.now f) }
+    ensures comb_loop { IfErr result (λ f. f.kind ≡ kind.CombLoop → IsDrivenOnce circuit.now × SaysLoop circuit.now f) }
+    ensures kinds { IfErr result (λ f. (f.kind ≡ kind.TwoDrivers) ⊎ ((f.kind ≡ kind.CombLoop) ⊎ (f.kind ≡ kind.NoMemory))) }
+{
+    match sort_in_order(alloc, circuit) {
+        Ok(Ok(_sorting)) => Ok(()),
+        Ok(Err(fault)) => Err(fault),
+        Err(NoMemory) => Err(no_memory(alloc)),
+    }
+}
