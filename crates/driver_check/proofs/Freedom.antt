@@ -43,7 +43,7 @@ module _ (c : Circuit) (valid : is_valid c ≡ true) (nodes : List Node) (ports 
       ∙ ap (λ (rows : List (List Span)). all_spans (slice_get rows (place_of c n))) graph.row
       ∙ ap all_spans (slice_get-map (node_spans c) nodes (place_of c n) ∙ ap (option_map (node_spans c)) (parts.every n part))
 
-  rows_long : length g.nodes.items ≡ length nodes
+  pub rows_long : length g.nodes.items ≡ length nodes
   rows_long = ap (λ (rows : List (List Span)). length rows) graph.row ∙ length-map nodes (node_spans c)
 
   -- each vertex is that of a bit or of a node

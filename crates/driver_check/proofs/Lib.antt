@@ -9,3 +9,4 @@ pub mod Linked
 pub mod Freedom
 pub mod Nexts
 pub mod Walked
+pub mod Noded

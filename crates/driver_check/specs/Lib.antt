@@ -7,3 +7,4 @@ pub mod Owners
 pub mod Vertices
 pub mod Sorting
 pub mod Walking
+pub mod Nodes

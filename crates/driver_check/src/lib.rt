@@ -4,6 +4,7 @@
 mod drivers;
 mod faults;
 mod graph;
+mod nodes;
 mod numbering;
 mod order;
 mod parts;
