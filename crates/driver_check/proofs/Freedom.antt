@@ -56,7 +56,7 @@ module _ (c : Circuit) (valid : is_valid c ≡ true) (nodes : List Node) (ports 
         inr (n.0, p.0, omega (arith, p.1, le)))
   ]
 
-  node_below : (n : Node) → IsPart c n → bit_count c.nets + place_of c n < size_of_graph g
+  pub node_below : (n : Node) → IsPart c n → bit_count c.nets + place_of c n < size_of_graph g
   node_below n part =
       let h = within nodes (place_of c n) n (parts.every n part) in
       omega (arith, h, rows_long, graph.bits_long)

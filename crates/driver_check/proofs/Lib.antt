@@ -10,3 +10,4 @@ pub mod Freedom
 pub mod Nexts
 pub mod Walked
 pub mod Noded
+pub mod Sourced

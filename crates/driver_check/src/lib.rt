@@ -6,7 +6,7 @@ mod faults;
 mod graph;
 mod nodes;
 mod numbering;
-mod order;
+mod ordering;
 mod parts;
 mod plan;
 mod rows;
@@ -14,5 +14,5 @@ mod search;
 mod sorting;
 mod walk;
 
-pub use order::check;
-pub use plan::{Node, Plan, Sources};
+pub use ordering::order;
+pub use plan::{Node, Plan};

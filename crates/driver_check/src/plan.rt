@@ -1,5 +1,4 @@
 //! The order in which the parts of a circuit are computed.
-use circuit::Drive;
 use sqlite_items::Items;
 
 /// What computes bits from other bits: a combinational cell, or a read port without a clock.
@@ -11,29 +10,9 @@ pub enum Node {
     Read(u32, u32),
 }
 
-/// An order for the nodes of a circuit, and where each bit of its nets comes from.
+/// An order for the nodes of a circuit.
 #[derive(Debug, Drop)]
 pub struct Plan {
     /// Each combinational cell and each read port without a clock once, behind all that it depends on.
     pub nodes: Items<Node>,
-    /// What gives the bits of the nets, with the wires between left out: no root is driven by a wire, and
-    /// no two roots share a bit. A bit of no root is 0.
-    pub roots: Items<Drive>,
-    /// The places in `roots` of those that take from each source.
-    pub sources: Sources,
-    /// For each root the places in `nodes` of those that read a bit of it, each once, rising.
-    pub readers: Items<Items<usize>>,
-}
-
-/// The places in a list of roots of those that take from each source, rising.
-#[derive(Debug, Drop)]
-pub struct Sources {
-    /// For each input of the circuit.
-    pub inputs: Items<Items<usize>>,
-    /// For each cell.
-    pub cells: Items<Items<usize>>,
-    /// For each register.
-    pub regs: Items<Items<usize>>,
-    /// For each memory, and each of its read ports.
-    pub reads: Items<Items<Items<usize>>>,
 }

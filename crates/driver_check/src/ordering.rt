@@ -4,8 +4,11 @@ ghost use Rattle.circuit.specs.Free.{IsDrivenOnce, IsInOrder};
 ghost use Rattle.circuit.specs.Valid.{is_valid};
 ghost use Rattle.circuit.specs.declared.fault.DesignKind.TheVariants as kind;
 ghost use Rattle.driver_check.specs.Faults.{SaysFault, SaysLoop, SaysTwoDrivers};
+ghost use Rattle.driver_check.specs.Ordered.{IsOrdered};
 ghost use Rattle.driver_check.specs.Sorting.{IsSorting};
 
+use crate::nodes::nodes_of;
+use crate::plan::Plan;
 use crate::sorting::{Sorting, sort_circuit};
 use crate::walk::comb_loop;
 use circuit::{Circuit, DesignFault, DesignKind};
@@ -53,18 +56,42 @@ fn no_memory(alloc: Global) -> DesignFault
     }
 }
 
-/// Checks that each bit of a circuit has one driver at most and that none depends on itself. The time and
-/// the memory are in proportion to the bits of the nets, the drives, and the bits that cells and read
-/// ports read; nothing recurses.
-pub fn check(alloc: Global, circuit: &Circuit) -> Result<(), DesignFault>
+/// The plan of a circuit that is in order.
+fn plan_of(alloc: Global, circuit: &Circuit, sorting: &Sorting) -> Result<Plan, NoMemory>
+    requires valid { is_valid circuit.now ≡ true }
+    requires sorting { IsSorting circuit.now sorting.now }
+    requires order { IsInOrder circuit.now }
+    ensures { IfOk result (λ p. IsOrdered circuit.now p.nodes) }
+{
+    Ok(Plan {
+        nodes: nodes_of(alloc, circuit, sorting)?,
+    })
+}
+
+/// The plan of a circuit, or why it has none.
+fn plan_or_fault(alloc: Global, circuit: &Circuit) -> Result<Result<Plan, DesignFault>, NoMemory>
     requires { is_valid circuit.now ≡ true }
-    ensures order { OnOk result (IsInOrder circuit.now) }
+    ensures { IfOk result (λ r. MatchResult r (λ p. IsOrdered circuit.now p.nodes × IsInOrder circuit.now) (λ f. SaysFault circuit.now f)) }
+{
+    match sort_in_order(alloc, circuit)? {
+        Ok(sorting) => Ok(Ok(plan_of(alloc, circuit, &sorting)?)),
+        Err(fault) => Ok(Err(fault)),
+    }
+}
+
+/// Orders the nodes of a circuit, where each bit has one driver at most and none depends on itself. The
+/// time and the memory are in proportion to the bits of the nets, the drives, and the bits that cells and
+/// read ports read; nothing recurses.
+pub fn order(alloc: Global, circuit: &Circuit) -> Result<Plan, DesignFault>
+    requires { is_valid circuit.now ≡ true }
+    ensures plan { IfOk result (λ p. IsOrdered circuit.now p.nodes) }
+    ensures in_order { OnOk result (IsInOrder circuit.now) }
     ensures two_drivers { IfErr result (λ f. f.kind ≡ kind.TwoDrivers → SaysTwoDrivers circuit.now f) }
     ensures comb_loop { IfErr result (λ f. f.kind ≡ kind.CombLoop → IsDrivenOnce circuit.now × SaysLoop circuit.now f) }
     ensures kinds { IfErr result (λ f. (f.kind ≡ kind.TwoDrivers) ⊎ ((f.kind ≡ kind.CombLoop) ⊎ (f.kind ≡ kind.NoMemory))) }
 {
-    match sort_in_order(alloc, circuit) {
-        Ok(Ok(_sorting)) => Ok(()),
+    match plan_or_fault(alloc, circuit) {
+        Ok(Ok(plan)) => Ok(plan),
         Ok(Err(fault)) => Err(fault),
         Err(NoMemory) => Err(no_memory(alloc)),
     }

@@ -3,7 +3,7 @@ use Rattle.driver_check.specs.Numbers.{number_of}
 use Rattle.driver_check.proofs.Numbered.{bit_below}
 use Rattle.driver_check.proofs.Fitting.{drives_inside}
 use Rattle.driver_check.proofs.Freedom.{all_free, bit_in_graph}
-use Rattle.driver_check.proofs.order.without_loop.Goals as goal
+use Rattle.driver_check.proofs.ordering.without_loop.Goals as goal
 
 pub returns : goal.returns
 returns c =
