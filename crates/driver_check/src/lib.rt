@@ -16,3 +16,6 @@ mod walk;
 
 pub use ordering::order;
 pub use plan::{Node, Plan};
+
+#[cfg(test)]
+mod tests;
