@@ -3,6 +3,7 @@ ghost use Rattle.std.specs.Prelude.{◌≡◌, ◌<◌, ◌≤◌, [], IfOk, min
 ghost use Rattle.circuit.specs.Run.{run_length};
 ghost use Rattle.flat_design.specs.Flat.{IsFlat};
 ghost use Rattle.flat_run.specs.Run.{AreSamples, run_of};
+ghost use Rattle.flat_stimulus.specs.Until.{samples_until};
 
 use crate::progress::Progress;
 use circuit::Circuit;
@@ -52,6 +53,7 @@ impl FlatRun {
     /// How many samples there are, at least one.
     pub fn count(&self) -> u64
         ensures count { result ≡ (run_of self.now).count }
+        ensures some { 1 ≤ result }
     {
         self.stimulus.count()
     }
@@ -73,5 +75,13 @@ impl FlatRun {
         ensures { result ≡ ((run_of self.now).row k).time }
     {
         self.stimulus.time(k)
+    }
+
+    /// How many samples are at or before a time.
+    pub fn count_until(&self, time: Time) -> u64
+        ensures value { result ≡ samples_until (run_of self.now).row (run_of self.now).count time }
+        ensures most { result ≤ (run_of self.now).count }
+    {
+        self.stimulus.count_until(time)
     }
 }

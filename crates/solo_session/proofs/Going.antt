@@ -1,0 +1,199 @@
+-- What holds of a session goes on to hold as a packet is served, and as samples are recorded.
+use Rattle.std.proofs.Common.{◌≡◌, ℕ, zero, suc, ◌+◌, ◌≤◌, Bool, true, false, List, [], ◌∷◌, ◌++◌, length, refl, sym, ap, subst, arith, ◌∙◌, append-nil, Option, Some, None, Ok, Err, if◌then◌else◌}
+use Rattle.std.specs.Prelude.{nat_le, slice_get, ◌||◌}
+use Rattle.std.specs.List.{list_all}
+use Rattle.std.proofs.lemmas.Bool.Decides.{nat_tests}
+use Rattle.std.proofs.lemmas.List.{append_assoc, length_push}
+use Rattle.circuit.specs.Run.{Row, Run, run_length}
+use Rattle.flat_run.specs.Run.{Sampled, run_of}
+use Rattle.flat_stimulus.specs.Until.{samples_until}
+use Rattle.hall_core.specs.Facts.{facts_of}
+use Rattle.hall_core.specs.Laws.{Taken, none, one_more, is_recording}
+use Rattle.hall_core.specs.Legal.{RunFacts, is_open, is_true, may_act}
+use Rattle.hall_core.specs.Replay.{State, after, replay}
+use Rattle.hall_core.specs.declared.entry.Act.{Act}
+use Rattle.hall_core.specs.declared.entry.Entry.{Entry}
+use Rattle.hall_core.specs.declared.entry.Entry.TheVariants as entry
+use Rattle.hall_core.proofs.Progress.{replay-push}
+use Rattle.proto_packets.specs.Asked.{asked}
+use Rattle.proto_packets.specs.declared.request.Request.TheVariants as request
+use Rattle.proto_replies.specs.Text.{packet_text}
+use Rattle.proto_replies.specs.declared.answer.ErrorKind.{ErrorKind}
+use Rattle.solo_session.specs.Refused.{Reading, error_of, greets, is_greeted}
+use Rattle.solo_session.specs.Reply.{act_asked, act_in, act_of, act_unless, answer_in, event, goal_of, moment_of}
+use Rattle.solo_session.specs.Said.{Agrees, packets_in, said, said_behind}
+use Rattle.solo_session.specs.Pace.{batch, batches, opening, with_packet, with_packets}
+use Rattle.solo_session.specs.Session.{HasSaid, HasServed, IsServing, Served, events, packet_entry}
+use Rattle.solo_session.proofs.Sayings.{is_greeted_push, packets_in_batch, packets_in_push_packet, said_batch, said_packet}
+use Rattle.solo_session.proofs.Agreeing.{agrees_batch, agrees_packet}
+use Rattle.solo_session.proofs.Serving.{packet_allowed, packet_served}
+use Rattle.solo_session.proofs.Taking.{taken_packet}
+
+-- ---- one packet and one batch more
+
+pub with_packets_push : (run : Run) (earlier : List (List ℕ)) (h : List Entry) (ps : List (List ℕ)) (q : List ℕ) → with_packets run earlier h (ps ++ q ∷ []) ≡ with_packet run (earlier ++ ps) (with_packets run earlier h ps) q
+unfolding with_packets
+with_packets_push run earlier h [] q = ap (λ z. with_packet run z h q) (sym (append-nil earlier))
+with_packets_push run earlier h (p ∷ ps) q =
+    with_packets_push run (earlier ++ p ∷ []) (with_packet run earlier h p) ps q
+    ∙ ap (λ z. with_packet run z (with_packets run (earlier ++ p ∷ []) (with_packet run earlier h p) ps) q) (append_assoc earlier (p ∷ []) ps)
+
+batches_suc : (facts : RunFacts) (k : ℕ) (h : List Entry) → batches facts (suc k) h ≡ batch facts (batches facts k h)
+unfolding batches
+batches_suc facts zero h = refl
+batches_suc facts (suc k) h = batches_suc facts k (batch facts h)
+
+pub batches_push : (facts : RunFacts) (k : ℕ) (h : List Entry) → batches facts (k + 1) h ≡ batch facts (batches facts k h)
+batches_push facts k h = (let more : k + 1 ≡ suc k = omega arith in ap (λ z. batches facts z h) more) ∙ batches_suc facts k h
+
+-- ---- samples are recorded
+
+open_served : (run : Run) (s : State) → IsServing run s → is_open s 0 ≡ true
+open_served run s serving = ap (λ cs. is_true (slice_get cs 0)) serving.clients
+
+pub has_said_more : (packets : List (List ℕ)) (s : Served) (bytes : List ℕ) (es : List Entry) → HasSaid packets s bytes → list_all is_recording es ≡ true → Taken (facts_of (run_of s.run)) (s.history ++ es) → IsServing (run_of s.run) (replay (s.history ++ es))
+    → HasSaid packets (record s { history = s.history ++ es }) (bytes ++ events (run_of s.run) s.greeted (replay s.history) es)
+has_said_more packets s bytes es has all taken serving = record {
+  serving = serving;
+  greeted = has.greeted;
+  counted = packets_in_batch s.history es all ∙ has.counted;
+  taken = taken;
+  agrees = agrees_batch (run_of s.run) packets s.history es has.agrees all;
+  said =
+      ap (λ z. z ++ events (run_of s.run) s.greeted (replay s.history) es) has.said
+      ∙ ap (λ b. said (run_of s.run) packets 0 s.history ++ events (run_of s.run) b (replay s.history) es) has.greeted
+      ∙ sym (said_batch (run_of s.run) packets s.history es (open_served (run_of s.run) (replay s.history) has.serving) has.counted all);
+}
+
+-- ---- a run is asked for at most all samples
+
+until_within : (row : ℕ → Row) (n time : ℕ) → samples_until row n time ≤ n
+unfolding samples_until
+until_within row zero time = omega arith
+until_within row (suc n) time = one_more_within (nat_le (row n).time time) (samples_until row n time) n (until_within row n time)
+  where
+    one_more_within : (b : Bool) (m n : ℕ) → m ≤ n → m + (if b then 1 else 0) ≤ suc n
+    one_more_within true m n le = omega (arith, le)
+    one_more_within false m n le = omega (arith, le)
+
+goal_within : (run : Run) (until : Option ℕ) → goal_of run until ≤ run.count
+goal_within run None = omega arith
+goal_within run (Some time) = until_within run.row run.count time
+
+may_goal : (m n : ℕ) → m ≤ n → nat_le m n ≡ true
+may_goal m n le = grind (arith, nat_tests)
+
+may_asked : (run : Run) (read : Reading) → may_act run.count (act_asked run read) ≡ true
+may_asked run (Ok (request.RunSimulation until kinds)) = may_goal (goal_of run until) run.count (goal_within run until)
+may_asked run (Ok (request.Greeting version)) = refl
+may_asked run (Ok (request.ListScopes scope)) = refl
+may_asked run (Ok (request.ListItems scope)) = refl
+may_asked run (Ok (request.ReferenceItems reference items)) = refl
+may_asked run (Ok (request.QueryInterval begin end items encoding collapse diagnostics)) = refl
+may_asked run (Ok request.Status) = refl
+may_asked run (Ok request.PauseSimulation) = refl
+may_asked run (Err e) = refl
+
+may_unless : (count : ℕ) (refusal : Option ErrorKind) (what : Act) → may_act count what ≡ true → may_act count (act_unless refusal what) ≡ true
+may_unless count (Some e) what may = refl
+may_unless count None what may = may
+
+pub may_in : (run : Run) (greeted : Bool) (read : Reading) → may_act run.count (act_in run greeted read) ≡ true
+may_in run greeted read = may_unless run.count (error_of greeted read) (act_asked run read) (may_asked run read)
+
+-- ---- a packet is served
+
+module _ (packets : List (List ℕ)) (s : Served) (bytes p : List ℕ) (has : HasSaid packets s bytes) where
+  greeted_more : (s.greeted || greets (asked p)) ≡ is_greeted (packets ++ p ∷ [])
+  greeted_more = ap (λ b. b || greets (asked p)) has.greeted ∙ sym (is_greeted_push packets p)
+
+  what_is : act_in (run_of s.run) s.greeted (asked p) ≡ act_of (run_of s.run) packets p
+  what_is = ap (λ b. act_in (run_of s.run) b (asked p)) has.greeted
+
+  serving_packet : IsServing (run_of s.run) (replay (s.history ++ packet_entry s (asked p) ∷ []))
+  serving_packet =
+      subst (λ z. IsServing (run_of s.run) z) (sym (replay-push s.history (packet_entry s (asked p))))
+      (packet_served (run_of s.run) (replay s.history) (act_in (run_of s.run) s.greeted (asked p)) has.serving (may_in (run_of s.run) s.greeted (asked p)))
+
+  counted_packet : packets_in 0 (s.history ++ packet_entry s (asked p) ∷ []) ≡ length (packets ++ p ∷ [])
+  counted_packet = omega (arith, has.counted, packets_in_push_packet s.history (act_in (run_of s.run) s.greeted (asked p)), length_push packets p)
+
+  taken_in : Taken (facts_of (run_of s.run)) (s.history ++ packet_entry s (asked p) ∷ [])
+  taken_in =
+      taken_packet (facts_of (run_of s.run)) s.history (act_in (run_of s.run) s.greeted (asked p))
+      (packet_allowed (run_of s.run) (replay s.history) (act_in (run_of s.run) s.greeted (asked p)) has.serving (may_in (run_of s.run) s.greeted (asked p))) has.taken
+
+  agrees_in : Agrees (run_of s.run) (packets ++ p ∷ []) 0 (s.history ++ packet_entry s (asked p) ∷ [])
+  agrees_in = subst (λ z. Agrees (run_of s.run) (packets ++ p ∷ []) 0 (s.history ++ entry.Packet 0 z ∷ [])) (sym what_is) (agrees_packet (run_of s.run) packets p s.history has.agrees has.counted)
+
+  text_of : Bool → Bool → List ℕ
+  text_of was now = packet_text (answer_in (run_of s.run) was (moment_of (after (replay s.history) (packet_entry s (asked p)))) (asked p)) ++ event (run_of s.run) now (replay s.history) (packet_entry s (asked p))
+
+  said_in : bytes ++ text_of s.greeted (s.greeted || greets (asked p)) ≡ said (run_of s.run) (packets ++ p ∷ []) 0 (s.history ++ packet_entry s (asked p) ∷ [])
+  unfolding text_of
+  said_in =
+      ap (λ z. z ++ text_of s.greeted (s.greeted || greets (asked p))) has.said
+      ∙ ap (λ b. said (run_of s.run) packets 0 s.history ++ text_of b (s.greeted || greets (asked p))) has.greeted
+      ∙ ap (λ b. said (run_of s.run) packets 0 s.history ++ text_of (is_greeted packets) b) greeted_more
+      ∙ sym (said_packet (run_of s.run) packets p s.history (act_in (run_of s.run) s.greeted (asked p)) (open_served (run_of s.run) (replay s.history) has.serving) has.counted)
+
+pub has_said_packet : (packets : List (List ℕ)) (s : Served) (bytes p : List ℕ) → HasSaid packets s bytes
+    → HasSaid (packets ++ p ∷ []) (record s { history = s.history ++ packet_entry s (asked p) ∷ []; greeted = s.greeted || greets (asked p) })
+      (bytes ++ (packet_text (answer_in (run_of s.run) s.greeted (moment_of (after (replay s.history) (packet_entry s (asked p)))) (asked p)) ++ event (run_of s.run) (s.greeted || greets (asked p)) (replay s.history) (packet_entry s (asked p))))
+unfolding text_of
+has_said_packet packets s bytes p has = record {
+  serving = serving_packet packets s bytes p has;
+  greeted = greeted_more packets s bytes p has;
+  counted = counted_packet packets s bytes p has;
+  taken = taken_in packets s bytes p has;
+  agrees = agrees_in packets s bytes p has;
+  said = said_in packets s bytes p has;
+}
+
+paced_packet : (packets : List (List ℕ)) (s next : Served) (bytes p : List ℕ) → HasServed packets s bytes → next.run ≡ s.run → next.history ≡ batch (facts_of (run_of s.run)) (s.history ++ packet_entry s (asked p) ∷ [])
+    → next.history ≡ with_packets (run_of next.run) [] opening (packets ++ p ∷ [])
+paced_packet packets s next bytes p served same is =
+    is
+    ∙ ap (λ b. batch (facts_of (run_of s.run)) (s.history ++ entry.Packet 0 (act_in (run_of s.run) b (asked p)) ∷ [])) served.has_said.greeted
+    ∙ ap (λ h. with_packet (run_of s.run) packets h p) served.paced
+    ∙ sym (with_packets_push (run_of s.run) [] opening packets p)
+    ∙ ap (λ (r : Sampled). with_packets (run_of r) [] opening (packets ++ p ∷ [])) (sym same)
+
+pub has_served_packet : (packets : List (List ℕ)) (s next : Served) (bytes p now : List ℕ) → HasServed packets s bytes → HasSaid (packets ++ p ∷ []) next now → next.run ≡ s.run
+    → next.history ≡ batch (facts_of (run_of s.run)) (s.history ++ packet_entry s (asked p) ∷ []) → HasServed (packets ++ p ∷ []) next now
+has_served_packet packets s next bytes p now served has same is = record {
+  paced = paced_packet packets s next bytes p served same is;
+  has_said = has;
+}
+
+-- ---- the start
+
+opened_agrees : (run : Run) → Agrees run [] 0 opening
+opened_agrees run = record {
+  taken = omega arith;
+  acts = λ before more what packet same is. absurd (nothing packet is);
+}
+  where
+    nothing : (packet : List ℕ) → None ≡ Some packet → ⊥
+    nothing packet e = cc
+
+opened_said : (run : Run) → [] ≡ said run [] 0 opening
+unfolding said_behind
+opened_said run = refl
+
+opened_taken : (facts : RunFacts) → 1 ≤ facts.length → Taken facts opening
+opened_taken facts some = one_more (one_more none (entry.Record 1 false) (record { allows = refl; meets = (some, tt {0}) })) (entry.Open 0) (record { allows = refl; meets = tt {0} })
+
+pub opened : (run : Sampled) → 1 ≤ run_length (run_of run) → HasServed [] (record { run = run; history = opening; greeted = false }) []
+unfolding with_packets
+opened run some = record {
+  paced = refl;
+  has_said = record {
+    serving = record { clients = refl; some = omega arith; settled = some; ahead = tt {0} };
+    greeted = refl;
+    counted = refl;
+    taken = opened_taken (facts_of (run_of run)) some;
+    agrees = opened_agrees (run_of run);
+    said = opened_said (run_of run);
+  };
+}

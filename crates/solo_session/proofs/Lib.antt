@@ -1,0 +1,9 @@
+mod Serving
+mod Batching
+mod Sayings
+mod Agreeing
+mod Isolated
+mod Packeted
+mod Taking
+mod Going
+mod Rounds

@@ -1,0 +1,143 @@
+-- The entries that a session adds to a history may come next.
+use Rattle.std.proofs.Common.{◌≡◌, ◌≢◌, ℕ, zero, suc, ◌+◌, ◌-◌, ◌<◌, ◌≤◌, Bool, true, false, not, List, [], ◌∷◌, ◌++◌, refl, sym, ap, subst, arith, ◌∙◌, append-nil, inl, inr}
+use Rattle.std.specs.Prelude.{nat_le, nat_lt, slice_get, slice_set, ◌==◌, ◌&&◌, if◌then◌else◌}
+use Rattle.std.specs.List.{list_all, list_any}
+use Rattle.std.proofs.lemmas.Bool.{and_parts, cases_Bool, cases_lt, cond-true, cond-false, not-true, or_parts}
+use Rattle.std.proofs.lemmas.Bool.Decides.{nat_tests}
+use Rattle.std.proofs.lemmas.List.{append_assoc}
+use Rattle.circuit.specs.Run.{Run}
+use Rattle.hall_core.specs.Facts.{facts_of}
+use Rattle.hall_core.specs.Laws.{Taken, one_more, is_recording}
+use Rattle.hall_core.specs.Legal.{HitsAsSaid, Legal, Meets, RunFacts, allowed, is_open, is_over, is_true, some_open}
+use Rattle.hall_core.specs.Replay.{State, after, replay}
+use Rattle.hall_core.specs.declared.entry.Act.{Act}
+use Rattle.hall_core.specs.declared.entry.Entry.{Entry}
+use Rattle.hall_core.specs.declared.entry.Entry.TheVariants as entry
+use Rattle.hall_core.specs.declared.entry.Goal.{Goal}
+use Rattle.hall_core.specs.declared.entry.Goal.TheVariants as goal
+use Rattle.hall_core.specs.declared.entry.Why.{Why}
+use Rattle.hall_core.proofs.Histories.{legal_taken}
+use Rattle.hall_core.proofs.Progress.{replay-push}
+use Rattle.solo_session.specs.Pace.{batch_size, greatest, hits_goal, may_record, may_stop, most_next, record_entries, record_of, recorded, some_hits, stop_entries, stopped}
+use Rattle.solo_session.specs.Session.{IsAhead, IsServing}
+
+-- ---- what is recorded
+
+pub all_recording_record : (facts : RunFacts) (s : State) (m : ℕ) → list_all is_recording (record_entries facts s m) ≡ true
+all_recording_record facts s zero = refl
+all_recording_record facts s (suc m) = refl
+
+all_recording_if : (b : Bool) → list_all is_recording (if b then entry.Unsettled ∷ [] else []) ≡ true
+all_recording_if true = refl
+all_recording_if false = refl
+
+pub all_recording_stop : (facts : RunFacts) (s : State) → list_all is_recording (stop_entries facts s) ≡ true
+all_recording_stop facts s = all_recording_if (may_stop facts s)
+
+-- the greatest number that passes, where it is not 0, passes
+greatest_passes : (test : ℕ → Bool) (n m : ℕ) → greatest test n ≡ suc m → test (suc m) ≡ true
+unfolding greatest
+greatest_passes test zero m is = cc
+greatest_passes test (suc n) m is = elim (cases_Bool (test (suc n))) [
+  | inl on ↦ ap test (sym is ∙ cond-true (test (suc n)) (suc n) (greatest test n) on) ∙ on
+  | inr off ↦ greatest_passes test n m (sym (cond-false (test (suc n)) (suc n) (greatest test n) off) ∙ is)
+]
+
+le_of : (a b : ℕ) → nat_le a b ≡ true → a ≤ b
+le_of a b h = grind (arith, nat_tests)
+
+-- where none of some samples hits, each of them does not
+none_of_them : (facts : RunFacts) (g : Goal) (n m k : ℕ) → some_hits facts g n m ≡ false → n ≤ k → k < n + m → hits_goal facts g k ≡ false
+unfolding some_hits
+none_of_them facts g n zero k none low high = absurd (omega (arith, low, high))
+none_of_them facts g n (suc m) k none low high =
+    let parts = or_parts (hits_goal facts g n) (some_hits facts g (suc n) m) none in
+    elim (cases_lt n k) [
+      | inl lt ↦ none_of_them facts g (suc n) m k parts.1 (omega (arith, lt)) (omega (arith, high))
+      | inr ge ↦ (let same : n ≡ k = omega (arith, ge, low) in ap (λ z. hits_goal facts g z) (sym same) ∙ parts.0)
+    ]
+
+hits_as_said : (facts : RunFacts) (n m : ℕ) (g : Goal) → some_hits facts g n m ≡ false → HitsAsSaid facts n (suc m) (hits_goal facts g (n + suc m - 1)) g
+hits_as_said facts n m goal.Hold none = tt {0}
+hits_as_said facts n m (goal.To g kinds) none =
+    ((λ k low high. none_of_them facts (goal.To g kinds) n m k none low (omega (arith, high))),
+    (λ k is. (let same : k ≡ n + suc m - 1 = omega (arith, is) in ap (λ z. facts.hits z kinds) same)))
+hits_as_said facts n m goal.Over none = tt {0}
+
+record_meets : (facts : RunFacts) (s : State) (m : ℕ) → (nat_le (s.n + suc m) facts.length && not (some_hits facts s.goal s.n (suc m - 1))) ≡ true → Meets facts s (record_of facts s (suc m))
+record_meets facts s m passes =
+    let parts = and_parts (nat_le (s.n + suc m) facts.length) (not (some_hits facts s.goal s.n (suc m - 1))) passes in
+    let before : suc m - 1 ≡ m = omega arith in
+    let none : some_hits facts s.goal s.n (suc m - 1) ≡ false = not-true (some_hits facts s.goal s.n (suc m - 1)) parts.1 in
+    (le_of (s.n + suc m) facts.length parts.0, hits_as_said facts s.n m s.goal (sym (ap (λ z. some_hits facts s.goal s.n z) before) ∙ none))
+
+taken_record : (facts : RunFacts) (h : List Entry) (m : ℕ) → most_next facts (replay h) ≡ m → Taken facts h → Taken facts (h ++ record_entries facts (replay h) m)
+taken_record facts h zero most taken = subst (λ z. Taken facts z) (sym (append-nil h)) taken
+taken_record facts h (suc m) most taken =
+    let passes : may_record facts (replay h) (suc m) ≡ true = greatest_passes (may_record facts (replay h)) batch_size m most in
+    let parts = and_parts (allowed facts.count (replay h) (record_of facts (replay h) (suc m))) (nat_le ((replay h).n + suc m) facts.length && not (some_hits facts (replay h).goal (replay h).n (suc m - 1))) passes in
+    one_more taken (record_of facts (replay h) (suc m)) (record { allows = parts.0; meets = record_meets facts (replay h) m parts.1 })
+
+pub taken_recorded : (facts : RunFacts) (h : List Entry) → Taken facts h → Taken facts (recorded facts h)
+taken_recorded facts h taken = taken_record facts h (most_next facts (replay h)) refl taken
+
+-- ---- the next sample does not settle
+
+eq_of : (a b : ℕ) → (a == b) ≡ true → a ≡ b
+eq_of a b h = grind (arith, nat_tests)
+
+lt_of : (a b : ℕ) → nat_lt a b ≡ true → a < b
+lt_of a b h = grind (arith, nat_tests)
+
+taken_stop : (facts : RunFacts) (h : List Entry) (stops : Bool) → may_stop facts (replay h) ≡ stops → Taken facts h → Taken facts (h ++ (if stops then entry.Unsettled ∷ [] else []))
+taken_stop facts h true may taken =
+    let parts = and_parts (allowed facts.count (replay h) entry.Unsettled) ((replay h).n == facts.length && nat_lt facts.length facts.count) may in
+    let at = and_parts ((replay h).n == facts.length) (nat_lt facts.length facts.count) parts.1 in
+    one_more taken entry.Unsettled (record { allows = parts.0; meets = (eq_of (replay h).n facts.length at.0, lt_of facts.length facts.count at.1) })
+taken_stop facts h false may taken = subst (λ z. Taken facts z) (sym (append-nil h)) taken
+
+pub taken_stopped : (facts : RunFacts) (h : List Entry) → Taken facts h → Taken facts (stopped facts h)
+taken_stopped facts h taken = taken_stop facts h (may_stop facts (replay h)) refl taken
+
+-- ---- a packet, and the end
+
+pub taken_packet : (facts : RunFacts) (h : List Entry) (what : Act) → allowed facts.count (replay h) (entry.Packet 0 what) ≡ true → Taken facts h → Taken facts (h ++ entry.Packet 0 what ∷ [])
+taken_packet facts h what may taken = one_more taken (entry.Packet 0 what) (record { allows = may; meets = tt {0} })
+
+goes_on : (run : Run) (s : State) (g : Goal) → IsAhead run s g → is_over g ≡ false
+goes_on run s goal.Hold ahead = refl
+goes_on run s (goal.To g kinds) ahead = refl
+goes_on run s goal.Over ahead = absurd ahead
+
+some_recorded : (n : ℕ) → 1 ≤ n → (n == 0) ≡ false
+some_recorded n some = grind (arith, nat_tests)
+
+-- behind sample 0 and before the end, what may follow may come next
+follows : (over first begins may : Bool) → over ≡ false → first ≡ false → may ≡ true → (not over && (if first then begins else may)) ≡ true
+follows over first begins may on behind is = ap (λ o. not o && (if first then begins else may)) on ∙ ap (λ b. if b then begins else may) behind ∙ is
+
+close_allowed : (run : Run) (s : State) (cause : Why) → IsServing run s → allowed run.count s (entry.Close 0 cause) ≡ true
+close_allowed run s cause serving =
+    follows (is_over s.goal) (s.n == 0) false (is_open s 0) (goes_on run s s.goal serving.ahead) (some_recorded s.n serving.some)
+    (ap (λ cs. is_true (slice_get cs 0)) serving.clients)
+
+none_open : (s : State) (cause : Why) → s.clients ≡ true ∷ [] → some_open (after s (entry.Close 0 cause)) ≡ false
+none_open s cause is = ap (λ cs. list_any (λ one. one) (slice_set cs 0 false)) is
+
+end_allowed : (run : Run) (s : State) (cause : Why) → IsServing run s → allowed run.count (after s (entry.Close 0 cause)) entry.End ≡ true
+end_allowed run s cause serving =
+    follows (is_over s.goal) (s.n == 0) s.unsettled (not (some_open (after s (entry.Close 0 cause)))) (goes_on run s s.goal serving.ahead) (some_recorded s.n serving.some)
+    (ap not (none_open s cause serving.clients))
+
+pub taken_closed : (run : Run) (h : List Entry) (cause : Why) → IsServing run (replay h) → Taken (facts_of run) h → Taken (facts_of run) (h ++ entry.Close 0 cause ∷ entry.End ∷ [])
+taken_closed run h cause serving taken =
+    let closed : Taken (facts_of run) (h ++ entry.Close 0 cause ∷ []) = one_more taken (entry.Close 0 cause) (record { allows = close_allowed run (replay h) cause serving; meets = tt {0} }) in
+    subst (λ z. Taken (facts_of run) z) (append_assoc h (entry.Close 0 cause ∷ []) (entry.End ∷ []))
+    (one_more closed entry.End (record { allows = subst (λ z. allowed run.count z entry.End ≡ true) (sym (replay-push h (entry.Close 0 cause))) (end_allowed run (replay h) cause serving); meets = tt {0} }))
+
+not_empty : (h : List Entry) (e : Entry) (es : List Entry) → h ++ e ∷ es ≢ []
+not_empty [] e es is = cc
+not_empty (first ∷ h) e es is = cc
+
+pub closed_legal : (run : Run) (h : List Entry) (cause : Why) → IsServing run (replay h) → Taken (facts_of run) h → Legal (facts_of run) (h ++ entry.Close 0 cause ∷ entry.End ∷ [])
+closed_legal run h cause serving taken = legal_taken (facts_of run) (h ++ entry.Close 0 cause ∷ entry.End ∷ []) (taken_closed run h cause serving taken) (not_empty h (entry.Close 0 cause) (entry.End ∷ []))

@@ -1,0 +1,7 @@
+use Rattle.solo_session.proofs.Rounds.{packet_served}
+use Rattle.solo_session.proofs.session.Session.serve_packet.Goals as goal
+
+pub returns-clause-served : goal.returns-clause-served
+returns-clause-served c = λ packets sent has.
+    packet_served packets c.args.self.now c.take_packet.new.self c.record.new.self c.stop.new.self sent c.args.text.now.items c.take_packet.new.text.items c.record.new.text.items c.stop.new.text.items c.args.packet.now has
+    c.in_ok-take_packet.ensures.session c.in_ok-take_packet.ensures.text c.in_ok-record.ensures.session c.in_ok-record.ensures.serving c.in_ok-record.ensures.text c.in_ok-stop.ensures.session c.in_ok-stop.ensures.serving c.in_ok-stop.ensures.text

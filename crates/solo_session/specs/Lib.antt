@@ -1,0 +1,5 @@
+pub mod Refused
+pub mod Reply
+pub mod Said
+pub mod Pace
+pub mod Session

@@ -1,0 +1,55 @@
+-- Which packets of a client are refused.
+use Rattle.std.specs.Prelude.{ℕ, ◌==◌, List, Bool, false, Option, Some, None, Result, Ok, Err, if◌then◌else◌}
+use Rattle.std.specs.List.{list_any}
+use Rattle.proto_packets.specs.Asked.{asked}
+use Rattle.proto_packets.specs.declared.request.Request.{Request}
+use Rattle.proto_packets.specs.declared.request.Request.TheVariants as request
+use Rattle.proto_packets.specs.declared.fault.PacketFault.{PacketFault}
+use Rattle.proto_packets.specs.declared.fault.PacketFault.TheVariants as fault
+use Rattle.proto_replies.specs.declared.answer.ErrorKind.{ErrorKind}
+use Rattle.proto_replies.specs.declared.answer.ErrorKind.TheVariants as error
+
+-- what a packet asks, or its fault
+abbrev pub Reading : Type 0
+Reading = Result Request PacketFault
+
+-- a greeting of version 0
+abbrev pub greets : Reading → Bool
+greets (Ok (request.Greeting version)) = version == 0
+greets (Ok (request.ListScopes scope)) = false
+greets (Ok (request.ListItems scope)) = false
+greets (Ok (request.ReferenceItems reference items)) = false
+greets (Ok (request.QueryInterval begin end items encoding collapse diagnostics)) = false
+greets (Ok request.Status) = false
+greets (Ok (request.RunSimulation until kinds)) = false
+greets (Ok request.PauseSimulation) = false
+greets (Err e) = false
+
+-- a client is greeted from its first greeting of version 0 on
+abbrev pub is_greeted : List (List ℕ) → Bool
+is_greeted packets = list_any (λ packet. greets (asked packet)) packets
+
+-- the error of a command that asks for a greeting before it
+abbrev pub unless_greeted : Bool → Option ErrorKind
+unless_greeted greeted = if greeted then None else Some error.NotGreeted
+
+-- the first error that holds for a packet, of a client that was greeted before it or not; want of memory is none
+abbrev pub error_of : Bool → Reading → Option ErrorKind
+error_of greeted (Err fault.Json) = Some error.InvalidJson
+error_of greeted (Err fault.Packet) = Some error.InvalidPacket
+error_of greeted (Err fault.Command) = Some error.InvalidCommand
+error_of greeted (Err fault.Argument) = Some error.InvalidArgument
+error_of greeted (Err fault.NoMemory) = None
+error_of greeted (Ok (request.Greeting version)) = if greeted then Some error.AlreadyGreeted else (if version == 0 then None else Some error.InvalidVersion)
+error_of greeted (Ok request.Status) = unless_greeted greeted
+error_of greeted (Ok (request.RunSimulation until kinds)) = unless_greeted greeted
+-- commands that are not served yet
+error_of greeted (Ok (request.ListScopes scope)) = Some error.InvalidCommand
+error_of greeted (Ok (request.ListItems scope)) = Some error.InvalidCommand
+error_of greeted (Ok (request.ReferenceItems reference items)) = Some error.InvalidCommand
+error_of greeted (Ok (request.QueryInterval begin end items encoding collapse diagnostics)) = Some error.InvalidCommand
+error_of greeted (Ok request.PauseSimulation) = Some error.InvalidCommand
+
+-- the error for which a packet behind a client's earlier packets is refused
+abbrev pub refused : List (List ℕ) → List ℕ → Option ErrorKind
+refused earlier packet = error_of (is_greeted earlier) (asked packet)

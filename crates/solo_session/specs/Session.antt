@@ -1,0 +1,84 @@
+-- What a contract sees of a session, and what holds of one while its client is served.
+use Rattle.std.specs.Prelude.{◌≡◌, ⊤, ℕ, ◌<◌, ◌≤◌, List, [], ◌∷◌, ◌++◌, length, map, Bool, true, false, if◌then◌else◌}
+use Rattle.circuit.specs.Run.{Run, run_length}
+use Rattle.flat_run.specs.Run.{Sampled, run_of}
+use Rattle.frame_zero.specs.Packets.{packets, too_long, whole}
+use Rattle.hall_core.specs.Facts.{facts_of}
+use Rattle.hall_core.specs.Laws.{Taken}
+use Rattle.hall_core.specs.Replay.{State, after, replay}
+use Rattle.hall_core.specs.declared.entry.Act.{Act}
+use Rattle.hall_core.specs.declared.entry.Act.TheVariants as act
+use Rattle.hall_core.specs.declared.entry.Entry.{Entry}
+use Rattle.hall_core.specs.declared.entry.Entry.TheVariants as entry
+use Rattle.hall_core.specs.declared.entry.Goal.{Goal}
+use Rattle.hall_core.specs.declared.entry.Goal.TheVariants as goal
+use Rattle.solo_session.specs.Refused.{Reading, is_greeted}
+use Rattle.solo_session.specs.Reply.{act_in, event}
+use Rattle.solo_session.specs.Said.{Agrees, packets_in, said}
+use Rattle.solo_session.specs.Pace.{opening, with_packets}
+
+pub record Served : Type 0 where
+  -- the circuit and its samples
+  pub run : Sampled
+  pub history : List Entry
+  pub greeted : Bool
+
+-- a goal goes beyond what is recorded, and no further than there are samples
+abbrev pub IsAhead : Run → State → Goal → Type 0
+IsAhead run s goal.Hold = ⊤
+IsAhead run s (goal.To g kinds) = (s.n < g) × (g ≤ run.count) × (s.unsettled ≡ false)
+IsAhead run s goal.Over = ⊥
+
+-- the client is open, sample 0 is recorded, and the recorded samples settle
+pub record IsServing (run : Run) (s : State) : Type 0 where
+  pub clients : s.clients ≡ true ∷ []
+  pub some : 1 ≤ s.n
+  pub settled : s.n ≤ run_length run
+  pub ahead : IsAhead run s s.goal
+
+abbrev pub IsRunning : Goal → Type 0
+IsRunning goal.Hold = ⊥
+IsRunning (goal.To g kinds) = ⊤
+IsRunning goal.Over = ⊥
+
+abbrev pub is_run_act : Act → Bool
+is_run_act act.Look = false
+is_run_act (act.Run m kinds) = true
+is_run_act act.Pause = false
+
+-- the entry of a packet
+abbrev pub packet_entry : Served → Reading → Entry
+packet_entry s read = entry.Packet 0 (act_in (run_of s.run) s.greeted read)
+
+-- the events of entries that are no packets
+unfoldable pub events : Run → Bool → State → List Entry → List ℕ
+events run listens s [] = []
+events run listens s (e ∷ es) = event run listens s e ++ events run listens (after s e) es
+
+-- these are the client's packets so far, what it was said is theirs, and the history is legal
+pub record HasSaid (packets : List (List ℕ)) (s : Served) (bytes : List ℕ) : Type 0 where
+  pub serving : IsServing (run_of s.run) (replay s.history)
+  pub greeted : s.greeted ≡ is_greeted packets
+  pub counted : packets_in 0 s.history ≡ length packets
+  pub taken : Taken (facts_of (run_of s.run)) s.history
+  pub agrees : Agrees (run_of s.run) packets 0 s.history
+  pub said : bytes ≡ said (run_of s.run) packets 0 s.history
+
+-- the same, and the history is that of the pace
+pub record HasServed (packets : List (List ℕ)) (s : Served) (bytes : List ℕ) : Type 0 where
+  pub paced : s.history ≡ with_packets (run_of s.run) [] opening packets
+  pub has_said : HasSaid packets s bytes
+
+-- packets that stood first in some bytes were served, and these bytes are left
+pub record IsServedSoFar (bytes left : List ℕ) (before now : Served) (text_before text_now : List ℕ) : Type 0 where
+  pub run : now.run ≡ before.run
+  pub done : List (List ℕ)
+  -- whatever more there is to the bytes
+  pub parts : (more : List ℕ) → packets (bytes ++ more) ≡ map whole done ++ packets (left ++ more)
+  pub served : (earlier : List (List ℕ)) (sent : List ℕ) → HasServed earlier before (sent ++ text_before) → HasServed (earlier ++ done) now (sent ++ text_now)
+
+-- all of them were, up to a part that is too long where there is one
+pub record IsServedOf (bytes left : List ℕ) (ends : Bool) (before now : Served) (text_before text_now : List ℕ) : Type 0 where
+  pub so_far : IsServedSoFar bytes left before now text_before text_now
+  pub serving : IsServing (run_of now.run) (replay now.history)
+  pub rest : packets left ≡ (if ends then too_long ∷ [] else [])
