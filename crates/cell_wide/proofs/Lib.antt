@@ -6,3 +6,4 @@ pub mod Operands
 pub mod Outputs
 pub mod Truths
 pub mod Selections
+pub mod Tested

@@ -6,6 +6,8 @@ mod cell;
 mod count;
 mod operand;
 mod select;
+#[cfg(test)]
+mod tests;
 mod truth;
 mod words;
 mod write;
