@@ -8,7 +8,7 @@ ghost use Rattle.cell_wide.specs.Words.{low_of_operand};
 use crate::words::{Chain, Fill, Words};
 use crate::write::same;
 use circuit::Piece;
-use signal_words::{SigReader, sig_bit, sig_width};
+use signal_words::{SigReader, sig_bit, sig_width, sig_word};
 use sim_base::Bits;
 
 /// A signal, and behind its last bit that bit again where it is signed, or zeros.
@@ -35,6 +35,9 @@ pub fn is_zero(sig: &[Piece], nets: &[Bits]) -> bool
     ensures { result ≡ (sig_number (digits_in nets.now) sig.now == 0) }
 {
     let width = sig_width(sig);
+    if width <= 64 {
+        return sig_word(sig, nets) == 0;
+    }
     let mut number = SigReader::new(sig, nets);
     same(&mut number, &mut Fill { ones: false }, width)
 }

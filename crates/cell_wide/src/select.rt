@@ -10,9 +10,9 @@ ghost use Rattle.cell_wide.specs.Words.{IsWritten};
 use crate::count::lowest;
 use crate::operand::is_zero;
 use crate::words::{Bitwise, Chain, Fill, Inverse, Pair};
-use crate::write::write;
+use crate::write::{put_word, write};
 use circuit::{Cell, Op, Piece};
-use signal_words::{SigReader, sig_width, sig_word};
+use signal_words::{SigReader, sig_field, sig_width, sig_word};
 use sim_base::Bits;
 
 /// Writes the bits of a signal from its bit `at` on.
@@ -20,6 +20,10 @@ fn copy(sig: &[Piece], nets: &[Bits], at: u32, into: &mut Bits) -> bool
     requires { IsSignalOf nets.now sig.now }
     ensures { IsWritten (sig_number (digits_in nets.now) sig.now / 2 ^ at % 2 ^ into.old.width) into.old into.new result }
 {
+    let width = into.width();
+    if width <= 64 {
+        return put_word(into, sig_field(sig, nets, at, width));
+    }
     let mut digits = SigReader::new(sig, nets);
     digits.skip(at);
     write(&mut digits, into)

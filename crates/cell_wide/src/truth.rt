@@ -9,10 +9,10 @@ ghost use Rattle.cell_wide.specs.Words.{IsWritten};
 use crate::bitwise::operands;
 use crate::count::is_odd;
 use crate::operand::is_zero;
-use crate::words::{Bitwise, Chain, Fill, Pair};
+use crate::words::{Bitwise, Chain, Fill, Pair, ones as all_ones};
 use crate::write::{same, write};
 use circuit::{Cell, Op, Piece};
-use signal_words::{SigReader, sig_width};
+use signal_words::{SigReader, sig_width, sig_word};
 use sim_base::Bits;
 
 /// Whether all bits of a signal are 1.
@@ -21,6 +21,9 @@ fn are_ones(sig: &[Piece], nets: &[Bits]) -> bool
     ensures { result ≡ (sig_number (digits_in nets.now) sig.now == 2 ^ sig_width sig.now - 1) }
 {
     let width = sig_width(sig);
+    if width <= 64 {
+        return sig_word(sig, nets) == all_ones(width);
+    }
     let mut number = SigReader::new(sig, nets);
     same(&mut number, &mut Fill { ones: true }, width)
 }
