@@ -1,6 +1,6 @@
 -- One step of numbers that are given by their digits.
-use Rattle.std.proofs.Common.{◌≡◌, ℕ, zero, suc, ◌+◌, ◌-◌, ◌*◌, ◌/◌, ◌%◌, ◌^◌, ◌<◌, ◌≤◌, min, refl, sym, ◌∙◌, ap, subst, arith, Bool, true, false}
-use Rattle.std.proofs.lemmas.Nat.{mod-pow-add, pow-add, mod_below, pow_pos, and_block, or_block, xor_block}
+use Rattle.std.proofs.Common.{◌≡◌, ℕ, zero, suc, ◌+◌, ◌-◌, ◌*◌, ◌/◌, ◌%◌, ◌^◌, ◌<◌, ◌≤◌, min, sym, ◌∙◌, ap, arith, true}
+use Rattle.std.proofs.lemmas.Nat.{mod-pow-add, pow-add, pow_pos, and_block, or_block, xor_block}
 use Rattle.cell_wide.specs.Words.{Passes, low_of_number, low_of_fill, low_of_chain, low_of_inverse, combined}
 use Rattle.cell_wide.specs.declared.words.Bitwise.{Bitwise}
 use Rattle.cell_wide.specs.declared.words.Bitwise.TheVariants as by

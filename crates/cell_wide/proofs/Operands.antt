@@ -1,12 +1,12 @@
 -- The digits of operands.
-use Rattle.std.proofs.Common.{◌≡◌, ℕ, zero, suc, ◌+◌, ◌-◌, ◌*◌, ◌/◌, ◌%◌, ◌^◌, ◌<◌, ◌≤◌, min, refl, sym, ◌∙◌, ap, arith, inl, inr, Bool, true, false, ◌&&◌, lit<}
+use Rattle.std.proofs.Common.{◌≡◌, ℕ, zero, suc, ◌+◌, ◌-◌, ◌*◌, ◌%◌, ◌^◌, ◌<◌, ◌≤◌, min, refl, sym, ◌∙◌, ap, arith, inl, inr, Bool, true, false, ◌&&◌, lit<}
 use Rattle.std.proofs.Math.Nat.{add-mod_right, mul-mod_left, mod-eq_of_lt, pow-le-pow_right}
 use Rattle.std.proofs.lemmas.Bool.{cases_lt, cond-true, cond-false}
 use Rattle.std.proofs.lemmas.Nat.{mod_below, pow_pos, pow_below, pow-add}
 use Rattle.std.specs.Int.{bit_at}
 use Rattle.std.proofs.lemmas.Bool.Decides.{nat_tests}
 use Rattle.sim_base.specs.BitValue.{digit_of}
-use Rattle.std.specs.Prelude.{◌==◌, ℤ, pos, negsuc, ◌-ℤ◌}
+use Rattle.std.specs.Prelude.{◌==◌, pos, ◌-ℤ◌}
 use Rattle.circuit.specs.Output.{modulo, operand}
 use Rattle.cell_wide.specs.Words.{low_of_number, low_of_fill, low_of_chain}
 use Rattle.cell_wide.proofs.Modulo.{modulo_difference}

@@ -1,16 +1,15 @@
 -- What cells that select give.
-use Rattle.std.proofs.Common.{◌≡◌, ◌≢◌, ℕ, zero, suc, ◌+◌, ◌-◌, ◌*◌, ◌/◌, ◌%◌, ◌^◌, ◌<◌, ◌≤◌, min, max, refl, sym, ◌∙◌, ap, subst, arith, inl, inr, Bool, true, false, ◌&&◌, cond, bit_and, bit_xor, lit<}
-use Rattle.std.proofs.Math.Nat.{mod-eq_of_lt, pow-le-pow_right, add-mul-mod_self_right, mul-le-mul_left, zero-mod, mod-mod}
-use Rattle.std.proofs.lemmas.Bool.{cases_lt, cases_eq, and_parts, cond-true, cond-false}
+use Rattle.std.proofs.Common.{◌≡◌, ℕ, zero, suc, ◌+◌, ◌-◌, ◌*◌, ◌/◌, ◌%◌, ◌^◌, ◌<◌, ◌≤◌, min, refl, sym, ◌∙◌, ap, subst, arith, inl, inr, Bool, true, false, cond, bit_and, bit_xor, lit<}
+use Rattle.std.proofs.Math.Nat.{mod-eq_of_lt, pow-le-pow_right, add-mul-mod_self_right, zero-mod}
+use Rattle.std.proofs.lemmas.Bool.{cases_lt, and_parts, cond-false}
 use Rattle.std.proofs.lemmas.Bool.Decides.{nat_tests}
-use Rattle.std.proofs.lemmas.Nat.{mod-pow-add, mod_below, mod_low, shr_high, pow_pos, pow-add, xor_lt, xor_mod, and_mod}
+use Rattle.std.proofs.lemmas.Nat.{mod-pow-add, mod_below, mod_low, shr_high, pow_pos, pow-add, xor_mod, and_mod}
 use Rattle.std.proofs.lemmas.Nat.Bits.{bit_at-lt, bit_at_and, bit_at_xor}
 use Rattle.std.specs.Int.{bit_at}
 use Rattle.std.specs.Prelude.{◌==◌}
-use Rattle.sim_base.specs.BitValue.{BitValue}
 use Rattle.circuit.specs.Signal.{Digits, gathered, sig_number, sig_width}
-use Rattle.circuit.specs.Output.{chosen_bit, equal_bit, formula, inputs_of, lowest_from, modulo, output}
-use Rattle.circuit.specs.Valid.{widest, widths_fit, widths_of}
+use Rattle.circuit.specs.Output.{chosen_bit, equal_bit, inputs_of, lowest_from, output}
+use Rattle.circuit.specs.Valid.{widths_fit, widths_of}
 use Rattle.circuit.specs.declared.cell.Cell.{Cell}
 use Rattle.circuit.specs.declared.cell.Op.TheVariants as op
 use Rattle.circuit.proofs.Same.{gathered_same}

@@ -1,8 +1,8 @@
 -- A cell whose ports are constants.
-use Rattle.std.proofs.Common.{◌≡◌, ℕ, ◌+◌, ◌<◌, ◌≤◌, List, [], ◌∷◌, refl, sym, ◌∙◌, ap, subst, arith, true, lit<}
+use Rattle.std.proofs.Common.{◌≡◌, ◌+◌, ◌≤◌, List, [], ◌∷◌, sym, ◌∙◌, ap, subst, arith, true, lit<}
 use Rattle.sim_base.specs.BitValue.{BitValue}
 use Rattle.circuit.specs.Signal.{sig_width}
-use Rattle.circuit.specs.Valid.{widest, widths_fit}
+use Rattle.circuit.specs.Valid.{widths_fit}
 use Rattle.circuit.specs.declared.cell.Cell.{Cell}
 use Rattle.circuit.specs.declared.netlist.Piece.{Piece}
 use Rattle.circuit.specs.declared.netlist.Piece.TheVariants as piece

@@ -1,17 +1,17 @@
 -- Truth values of operands.
-use Rattle.std.proofs.Common.{◌≡◌, ◌≢◌, ℕ, zero, suc, ◌+◌, ◌-◌, ◌*◌, ◌/◌, ◌%◌, ◌^◌, ◌<◌, ◌≤◌, min, refl, sym, ◌∙◌, ap, subst, arith, inl, inr, Bool, true, false, ◌&&◌, cond, count_ones, lit<}
+use Rattle.std.proofs.Common.{◌≡◌, ◌≢◌, ℕ, zero, suc, ◌+◌, ◌-◌, ◌*◌, ◌/◌, ◌%◌, ◌^◌, ◌<◌, ◌≤◌, min, sym, ◌∙◌, ap, arith, inl, inr, Bool, true, false, ◌&&◌, count_ones, lit<}
 use Rattle.std.proofs.Math.Nat.{mod-eq_of_lt, pow-le-pow_right}
 use Rattle.std.proofs.lemmas.Bool.{cases_lt, cases_eq, cases_Bool, cond-true, cond-false}
 use Rattle.std.proofs.lemmas.Bool.Decides.{nat_tests}
 use Rattle.std.proofs.lemmas.Int.{ints}
-use Rattle.std.proofs.lemmas.Nat.{mod-pow-add, mod_below, pow_pos, pow_below, pow-add, ones_cat, ones_le_self, zero_from_ones}
-use Rattle.std.proofs.lemmas.Nat.Bits.{bit_at_above, bit_at_cat_high, bit_at_ones, bit_at-lt, bit_at-zero}
+use Rattle.std.proofs.lemmas.Nat.{mod-pow-add, mod_below, pow_pos, pow-add, ones_cat, ones_le_self, zero_from_ones}
+use Rattle.std.proofs.lemmas.Nat.Bits.{bit_at_above, bit_at_cat_high, bit_at_ones, bit_at-lt}
 use Rattle.std.specs.Int.{bit_at}
-use Rattle.std.specs.Prelude.{◌==◌, ℤ, pos, negsuc, ◌-ℤ◌, int_le}
+use Rattle.std.specs.Prelude.{◌==◌, ℤ, pos, ◌-ℤ◌, int_le}
 use Rattle.circuit.specs.Signal.{Digits}
 use Rattle.circuit.specs.Output.{modulo, operand, ones, truth, formula, inputs_of, output}
 use Rattle.circuit.specs.declared.cell.Cell.{Cell}
-use Rattle.cell_wide.specs.Words.{low_of_number, low_of_fill, low_of_chain}
+use Rattle.cell_wide.specs.Words.{low_of_fill, low_of_chain}
 use Rattle.cell_wide.proofs.Operands.{ones_low}
 
 -- ---- ones

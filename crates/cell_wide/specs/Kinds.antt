@@ -1,5 +1,5 @@
 -- The types of cells that work on any width.
-use Rattle.std.specs.Prelude.{◌≡◌, ℕ, ◌≤◌, List, Bool, true, false, ◌||◌}
+use Rattle.std.specs.Prelude.{◌≡◌, ◌≤◌, List, Bool, true, false, ◌||◌}
 use Rattle.sim_base.specs.BitValue.{BitValue}
 use Rattle.circuit.specs.Valid.{widest, widths_fit, widths_of}
 use Rattle.circuit.specs.declared.cell.Cell.{Cell}

@@ -1,5 +1,5 @@
-use Rattle.std.proofs.Common.{◌≡◌, ◌-◌, ◌^◌, refl, sym, ◌∙◌, ap}
-use Rattle.circuit.specs.Output.{left, right, inputs_of, modulo, output}
+use Rattle.std.proofs.Common.{refl}
+use Rattle.circuit.specs.Output.{output}
 use Rattle.circuit.specs.declared.cell.Op.TheVariants as op
 use Rattle.signal_words.specs.Values.{digits_in}
 use Rattle.cell_wide.specs.declared.words.Bitwise.TheVariants as by

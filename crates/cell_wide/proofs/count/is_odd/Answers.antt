@@ -1,4 +1,4 @@
-use Rattle.std.proofs.Common.{◌≡◌, ◌+◌, ◌<◌, ◌≤◌, ◌^◌, arith}
+use Rattle.std.proofs.Common.{arith}
 use Rattle.cell_wide.proofs.Counted.{counted}
 use Rattle.cell_wide.proofs.count.is_odd.Goals as goal
 

@@ -1,7 +1,5 @@
-use Rattle.std.proofs.Common.{◌≡◌, ◌+◌, ◌<◌, ◌≤◌, ◌^◌, sym, subst, arith, w64}
+use Rattle.std.proofs.Common.{◌<◌, ◌^◌, sym, subst, arith, w64}
 use Rattle.std.specs.Int.{trailing_zeros}
-use Rattle.circuit.specs.Output.{lowest_from}
-use Rattle.std.proofs.lemmas.Nat.{trailing_le}
 use Rattle.cell_wide.proofs.Counted.{searched, found, found_inside, found_none}
 use Rattle.cell_wide.proofs.count.lowest.Goals as goal
 

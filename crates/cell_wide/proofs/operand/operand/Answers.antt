@@ -1,8 +1,7 @@
-use Rattle.std.proofs.Common.{◌≡◌, ◌-◌, Bool, ◌&&◌, sym, ◌∙◌, ap, subst, arith}
+use Rattle.std.proofs.Common.{◌≡◌, ◌-◌, ◌&&◌, ◌∙◌, ap, arith}
 use Rattle.std.specs.Int.{bit_at}
 use Rattle.std.specs.Prelude.{◌==◌}
 use Rattle.sim_base.specs.BitValue.{BitValue, digit_of}
-use Rattle.circuit.specs.Output.{modulo, operand}
 use Rattle.circuit.specs.Signal.{sig_number, sig_width}
 use Rattle.signal_words.specs.Values.{digits_in}
 use Rattle.cell_wide.specs.Words.{low_of_chain, low_of_fill, low_of_number, low_of_operand}

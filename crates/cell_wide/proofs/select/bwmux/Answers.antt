@@ -1,7 +1,7 @@
-use Rattle.std.proofs.Common.{◌≡◌, ◌*◌, ◌/◌, ◌%◌, ◌^◌, ◌<◌, bit_and, bit_xor, sym, ◌∙◌, ap, subst}
+use Rattle.std.proofs.Common.{◌%◌, ◌^◌, bit_and, bit_xor, sym, ◌∙◌, ap}
 use Rattle.sim_base.specs.BitValue.{BitValue}
 use Rattle.circuit.specs.Output.{output}
-use Rattle.circuit.specs.Signal.{sig_number, sig_value, sig_width}
+use Rattle.circuit.specs.Signal.{sig_number}
 use Rattle.signal_words.specs.Values.{digits_in}
 use Rattle.cell_wide.proofs.Outputs.{same_written}
 use Rattle.cell_wide.proofs.Selections.{bwmux_output}

@@ -1,4 +1,3 @@
-use Rattle.std.proofs.Common.{◌≤◌}
 use Rattle.circuit.specs.Signal.{sig_width}
 use Rattle.cell_wide.proofs.Selections.{selector_small}
 use Rattle.cell_wide.proofs.select.selected.Goals as goal

@@ -1,4 +1,4 @@
-use Rattle.std.proofs.Common.{◌≡◌, ◌≤◌, [], ◌∷◌, ◌++◌, ap, sym, subst, ◌∙◌, true, refl}
+use Rattle.std.proofs.Common.{◌≡◌, ◌≤◌, [], ◌∷◌, ◌++◌, ap, subst, ◌∙◌, true, refl}
 use Rattle.circuit.specs.Valid.{widths_fit}
 use Rattle.cell_wide.proofs.Tested.{constant_cell}
 use Rattle.cell_wide.proofs.tests.evaluated.Goals as goal

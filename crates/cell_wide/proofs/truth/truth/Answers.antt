@@ -1,4 +1,3 @@
-use Rattle.std.proofs.Common.{◌≡◌}
 use Rattle.circuit.specs.Output.{output}
 use Rattle.signal_words.specs.Values.{digits_in}
 use Rattle.cell_wide.proofs.Outputs.{same_written}

@@ -1,4 +1,4 @@
-use Rattle.std.proofs.Common.{◌≡◌, ◌/◌, ◌%◌, ◌^◌, ap, ◌∙◌}
+use Rattle.std.proofs.Common.{◌/◌, ◌%◌, ◌^◌, ap, ◌∙◌}
 use Rattle.cell_wide.proofs.Written.{word_written, word_same}
 use Rattle.cell_wide.proofs.write.put_word.Goals as goal
 

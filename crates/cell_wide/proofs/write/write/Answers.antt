@@ -1,5 +1,5 @@
-use Rattle.std.proofs.Common.{◌≡◌, ◌≢◌, ◌+◌, ◌-◌, ◌/◌, ◌%◌, ◌<◌, ◌≤◌, ◌^◌, sym, ◌∙◌, ap, subst, arith}
-use Rattle.cell_wide.proofs.Written.{IsWriting, field_same, field_changed, written}
+use Rattle.std.proofs.Common.{◌≡◌, ◌+◌, ◌/◌, ◌%◌, ◌<◌, ◌≤◌, ◌^◌, sym, ◌∙◌, subst, arith}
+use Rattle.cell_wide.proofs.Written.{field_same, field_changed, written}
 use Rattle.cell_wide.proofs.write.write.Goals as goal
 use Rattle.cell_wide.proofs.write.write.Goals.{then-field-word, else-field-word}
 

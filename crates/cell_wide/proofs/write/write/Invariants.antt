@@ -1,4 +1,4 @@
-use Rattle.std.proofs.Common.{◌≡◌, ◌-◌}
+use Rattle.std.proofs.Common.{◌-◌}
 use Rattle.cell_wide.proofs.Written.{IsWriting}
 use Rattle.cell_wide.proofs.write.write.Given as goal
 

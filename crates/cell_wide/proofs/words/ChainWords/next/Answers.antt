@@ -1,5 +1,5 @@
-use Rattle.std.proofs.Common.{◌≡◌, ◌+◌, ◌-◌, ◌*◌, ◌%◌, ◌<◌, ◌≤◌, ◌^◌, sym, ◌∙◌, ap, subst, arith}
-use Rattle.cell_wide.specs.Words.{Passes, low_of_chain}
+use Rattle.std.proofs.Common.{◌+◌, ◌-◌, ◌*◌, ◌%◌, ◌<◌, ◌^◌, sym, ◌∙◌, ap, subst, arith}
+use Rattle.cell_wide.specs.Words.{low_of_chain}
 use Rattle.cell_wide.proofs.Digits.{low_passes, across_passes, across_word}
 use Rattle.signal_words.proofs.Numbers.{IsAbove, put_above}
 use Rattle.cell_wide.proofs.words.ChainWords.next.Goals as goal

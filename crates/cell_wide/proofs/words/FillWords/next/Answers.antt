@@ -1,5 +1,3 @@
-use Rattle.std.proofs.Common.{◌≡◌, ◌+◌, ◌-◌, ◌*◌, ◌^◌, sym, ◌∙◌, ap, subst}
-use Rattle.cell_wide.specs.Words.{Passes, low_of_fill}
 use Rattle.cell_wide.proofs.Digits.{fill_passes}
 use Rattle.cell_wide.proofs.words.FillWords.next.Goals as goal
 

@@ -1,4 +1,4 @@
-use Rattle.std.proofs.Common.{◌≡◌, ◌+◌, ◌-◌, ◌*◌, ◌<◌, ◌^◌, sym, ◌∙◌, ap, subst}
+use Rattle.std.proofs.Common.{◌+◌, ◌-◌, ◌*◌, ◌<◌, ◌^◌, sym, ◌∙◌, ap, subst}
 use Rattle.cell_wide.specs.Words.{low_of_inverse}
 use Rattle.cell_wide.proofs.Digits.{inverse_passes}
 use Rattle.cell_wide.proofs.words.InverseWords.next.Goals as goal

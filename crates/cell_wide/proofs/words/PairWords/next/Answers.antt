@@ -1,5 +1,4 @@
-use Rattle.std.proofs.Common.{◌≡◌, ◌+◌, ◌*◌, ◌<◌, ◌^◌, sym, ◌∙◌, ap, subst}
-use Rattle.cell_wide.specs.Words.{combined}
+use Rattle.std.proofs.Common.{◌<◌, ◌^◌, sym, subst}
 use Rattle.cell_wide.specs.declared.words.Bitwise.TheVariants as by
 use Rattle.cell_wide.proofs.Digits.{combined_passes}
 use Rattle.cell_wide.proofs.words.PairWords.next.Goals as goal

@@ -1,4 +1,4 @@
-use Rattle.std.proofs.Common.{◌≡◌, ◌+◌, ◌*◌, ◌/◌, ◌^◌, sym, ◌∙◌, ap}
+use Rattle.std.proofs.Common.{◌+◌, ◌*◌, ◌/◌, ◌^◌, sym, ◌∙◌, ap}
 use Rattle.sim_base.specs.BitValue.{BitValue}
 use Rattle.cell_wide.specs.Words.{low_of_number}
 use Rattle.cell_wide.proofs.Digits.{number_passes}
