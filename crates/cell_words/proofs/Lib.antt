@@ -5,4 +5,4 @@ mod Sources
 mod Filled
 mod Taken
 mod Distances
-mod Ports
+mod Pieces

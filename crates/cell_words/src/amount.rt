@@ -14,6 +14,7 @@ use sim_base::Bits;
 /// No shift moves digits by more places: twice the largest width.
 const FARTHEST: u32 = 131_072;
 
+/// The word with `n` digits that are all 1, or all 0.
 fn all_ones(ones: bool, n: u32) -> u64
     requires { n ≤ 64 }
     ensures { result ≡ all_ones ones n }
@@ -38,6 +39,7 @@ fn is_rest(reader: &mut SigReader, left: u32, ones: bool) -> bool
     true
 }
 
+/// How far a word is above 0, or below the digits that are all 1.
 fn flipped(word: u64, n: u32, ones: bool) -> u64
     requires small { n ≤ 64 }
     requires below { word < 2 ^ n }
@@ -63,6 +65,7 @@ fn distance(sig: &[Piece], nets: &[Bits], ones: bool) -> u32
     flipped(word, n, ones).min(u64::from(FARTHEST)) as u32
 }
 
+/// The number of places that an operand of at most 64 bits asks for.
 fn amount_of_word(width: u32, word: u64, signed: bool) -> Amount
     requires narrow { width ≤ 64 }
     requires below { word < 2 ^ width }
@@ -79,6 +82,7 @@ fn amount_of_word(width: u32, word: u64, signed: bool) -> Amount
     }
 }
 
+/// The same of an operand of any width.
 fn amount_of_words(sig: &[Piece], nets: &[Bits], signed: bool) -> Amount
     requires inside { AreInside nets.now sig.now }
     requires fits { sig_width sig.now ≤ 65536 }

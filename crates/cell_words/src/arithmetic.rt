@@ -5,16 +5,11 @@ ghost use Rattle.circuit.specs.Signal.{Digits, sig_value};
 ghost use Rattle.circuit.specs.Output.{Inputs, modulo, formula, truth, output};
 ghost use Rattle.cell_words.specs.Kinds.{is_division, is_comparison, is_binary, is_arithmetic, HasOperands, ReadsPorts};
 
+use crate::port::Port;
 use crate::whole::{Whole, low_ones};
 use circuit::{Cell, Op};
 
-/// The value of a port of at most 128 digits.
-#[derive(Clone, Copy, Debug)]
-pub struct Port {
-    pub width: u32,
-    pub number: u128,
-}
-
+/// Quotients and remainders; a zero divisor gives 0.
 fn divided(op: Op, a: &Whole, b: &Whole) -> u128
     requires { is_division op ≡ true }
     ensures { (i : Inputs) → HasOperands i a.now b.now → result ≡ modulo 128 (formula op i) }
@@ -42,6 +37,7 @@ fn compared(op: Op, a: &Whole, b: &Whole) -> bool
     }
 }
 
+/// What a cell with two operands computes, modulo 2^128.
 fn of_two(op: Op, a: &Whole, b: &Whole) -> u128
     requires { is_binary op ≡ true }
     ensures { (i : Inputs) → HasOperands i a.now b.now → result ≡ modulo 128 (formula op i) }
@@ -55,6 +51,7 @@ fn of_two(op: Op, a: &Whole, b: &Whole) -> u128
     }
 }
 
+/// What an arithmetic cell computes, modulo 2^128.
 fn low_of(cell: &Cell, a: Port, b: Port) -> u128
     requires kind { is_arithmetic cell.now.op ≡ true }
     requires a_narrow { a.width ≤ 128 }

@@ -5,6 +5,7 @@
 mod amount;
 mod arithmetic;
 mod outputs;
+mod port;
 mod shift;
 mod source;
 #[cfg(test)]

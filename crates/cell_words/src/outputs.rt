@@ -7,37 +7,20 @@ ghost use Rattle.circuit.specs.Valid.{widths_fit, widths_of};
 ghost use Rattle.signal_words.specs.Values.{digits_in, AreInside, IsSignalOf};
 ghost use Rattle.signal_words.specs.Stores.{IsCellOf};
 ghost use Rattle.cell_words.specs.Kinds.{is_arithmetic, is_arithmetic_or_shift, is_shift};
-ghost use Rattle.cell_words.specs.Shifts.{is_below_zero, places};
+ghost use Rattle.cell_words.specs.Shifts.{places};
 
 use crate::amount::{amount_of, is_below_zero};
-use crate::arithmetic::{Port, result_of};
+use crate::arithmetic::result_of;
+use crate::port::port_of;
 use crate::shift::{moved_word, shift_of};
 use crate::source::{Source, fill};
 use crate::write::put_number;
-use circuit::{Cell, Op, Piece, Store};
-use signal_words::{SigReader, sig_width, sig_word};
+use circuit::{Cell, Op, Store};
+use signal_words::sig_width;
 use sim_base::{Bits, Steps};
 use std::sync::ledger::Ledger;
 
-fn port_of(sig: &[Piece], nets: &[Bits]) -> Port
-    requires inside { AreInside nets.now sig.now }
-    requires narrow { sig_width sig.now ≤ 128 }
-    ensures width { result.width ≡ sig_width sig.now }
-    ensures number { result.number ≡ sig_number (digits_in nets.now) sig.now }
-    ensures below { result.number < 2 ^ result.width }
-{
-    let width = sig_width(sig);
-    if width <= 64 {
-        let number = u128::from(sig_word(sig, nets));
-        return Port { width, number };
-    }
-    let mut reader = SigReader::new(sig, nets);
-    let low = reader.take(64);
-    let high = reader.take(64);
-    let number = (u128::from(high) << 64) + u128::from(low);
-    Port { width, number }
-}
-
+/// Arithmetic and comparisons, by whole numbers of up to 128 digits.
 fn arithmetic(cell: &Cell, nets: &[Bits], into: &mut Bits) -> bool
     requires kind { is_arithmetic cell.now.op ≡ true }
     requires width { cell.now.width ≤ 128 }
@@ -55,16 +38,7 @@ fn arithmetic(cell: &Cell, nets: &[Bits], into: &mut Bits) -> bool
     put_number(into, number)
 }
 
-/// Whether a port stands for a number below 0, in two's complement where signed.
-fn is_top_set(signed: bool, a: Port) -> bool
-    requires narrow { a.width ≤ 128 }
-    requires below { a.number < 2 ^ a.width }
-    ensures { result ≡ is_below_zero signed a.width a.number }
-{
-    signed && a.width > 0 && (a.number >> (a.width - 1)) & 1 == 1
-}
-
-/// The second operand has a sign in these types alone.
+/// Whether the second operand has a sign, which it has in two types alone.
 fn is_amount_signed(cell: &Cell) -> bool
     requires { is_shift cell.now.op ≡ true }
     ensures { (i : Inputs) → i.b_signed ≡ cell.now.b_signed → operand result i.b.width i.b.number ≡ places cell.now.op i }
@@ -105,7 +79,7 @@ fn shifted_word(cell: &Cell, nets: &[Bits], into: &mut Bits) -> bool
     ensures changed { result ≡ not (into.old.number == output (digits_in nets.now) cell.now) }
 {
     let a = port_of(cell.a.as_slice(), nets);
-    let negative = is_top_set(cell.a_signed, a);
+    let negative = a.is_below_zero(cell.a_signed);
     let amount = amount_of(cell.b.as_slice(), nets, is_amount_signed(cell));
     let shift = shift_of(cell, a.width, negative, amount);
     let number = moved_word(shift, a, cell.width);

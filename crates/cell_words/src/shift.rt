@@ -5,7 +5,7 @@ ghost use Rattle.circuit.specs.Output.{Inputs, modulo, formula};
 ghost use Rattle.cell_words.specs.Kinds.{is_shift};
 ghost use Rattle.cell_words.specs.Shifts.{extended, source, moved, places, is_to_the_left, IsAmount, HasWidths};
 
-use crate::arithmetic::Port;
+use crate::port::Port;
 use crate::whole::low_ones;
 use circuit::{Cell, Op};
 

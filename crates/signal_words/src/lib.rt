@@ -9,5 +9,6 @@ mod signal;
 mod tests;
 
 pub use laws::{law_of_start, law_of_stores};
+pub use piece::{piece_width, piece_word};
 pub use reader::SigReader;
 pub use signal::{sig_bit, sig_field, sig_width, sig_word};

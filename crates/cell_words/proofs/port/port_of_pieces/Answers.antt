@@ -2,8 +2,8 @@ use Rattle.std.proofs.Common.{ap, ◌∙◌}
 use Rattle.circuit.specs.Signal.{sig_number, sig_width}
 use Rattle.signal_words.specs.Values.{digits_in}
 use Rattle.sim_base.specs.BitValue.{BitValue}
-use Rattle.cell_words.proofs.Ports.{two_words}
-use Rattle.cell_words.proofs.outputs.port_of.Goals as goal
+use Rattle.cell_words.proofs.Pieces.{two_words}
+use Rattle.cell_words.proofs.port.port_of_pieces.Goals as goal
 
 pub returns-clause-number : goal.returns-clause-number
 returns-clause-number c =

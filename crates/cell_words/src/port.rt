@@ -1,0 +1,68 @@
+//! The ports of cells, of at most 128 bits.
+ghost use Rattle.std.specs.Prelude.{◌≡◌, ◌<◌, ◌≤◌, ◌^◌};
+ghost use Rattle.circuit.specs.Signal.{sig_number, sig_width};
+ghost use Rattle.signal_words.specs.Values.{digits_in, AreInside};
+ghost use Rattle.cell_words.specs.Shifts.{is_below_zero};
+
+use circuit::Piece;
+use signal_words::{SigReader, piece_width, piece_word, sig_width, sig_word};
+use sim_base::Bits;
+
+/// The value of a port of at most 128 bits.
+#[derive(Clone, Copy, Debug)]
+pub struct Port {
+    /// In bits.
+    pub width: u32,
+    pub number: u128,
+}
+
+impl Port {
+    /// Whether it stands for a number below 0, in two's complement where signed.
+    pub fn is_below_zero(self, signed: bool) -> bool
+        requires narrow { self.width ≤ 128 }
+        requires below { self.number < 2 ^ self.width }
+        ensures { result ≡ is_below_zero signed self.width self.number }
+    {
+        signed && self.width > 0 && (self.number >> (self.width - 1)) & 1 == 1
+    }
+}
+
+/// The value of a port of any pieces. It stands apart so that `port_of` stays small.
+#[inline(never)]
+fn port_of_pieces(sig: &[Piece], nets: &[Bits]) -> Port
+    requires inside { AreInside nets.now sig.now }
+    requires narrow { sig_width sig.now ≤ 128 }
+    ensures width { result.width ≡ sig_width sig.now }
+    ensures number { result.number ≡ sig_number (digits_in nets.now) sig.now }
+    ensures below { result.number < 2 ^ result.width }
+{
+    let width = sig_width(sig);
+    if width <= 64 {
+        let number = u128::from(sig_word(sig, nets));
+        return Port { width, number };
+    }
+    let mut reader = SigReader::new(sig, nets);
+    let low = reader.take(64);
+    let high = reader.take(64);
+    let number = (u128::from(high) << 64) + u128::from(low);
+    Port { width, number }
+}
+
+/// The value of a port. Most ports are one piece of one word, which is read without a loop.
+#[inline]
+pub fn port_of(sig: &[Piece], nets: &[Bits]) -> Port
+    requires inside { AreInside nets.now sig.now }
+    requires narrow { sig_width sig.now ≤ 128 }
+    ensures width { result.width ≡ sig_width sig.now }
+    ensures number { result.number ≡ sig_number (digits_in nets.now) sig.now }
+    ensures below { result.number < 2 ^ result.width }
+{
+    if let [piece] = sig {
+        let width = piece_width(piece);
+        if width <= 64 {
+            let number = u128::from(piece_word(piece, nets));
+            return Port { width, number };
+        }
+    }
+    port_of_pieces(sig, nets)
+}
