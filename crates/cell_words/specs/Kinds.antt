@@ -1,8 +1,5 @@
 -- The types of cells that are computed with whole numbers or shift.
-use Rattle.std.specs.Prelude.{◌≡◌, ◌<◌, ◌^◌, ℤ, Bool, true, false, ◌||◌}
-use Rattle.circuit.specs.Output.{Inputs, left, right}
-use Rattle.sim_base.specs.BitValue.{BitValue}
-use Rattle.circuit.specs.declared.cell.Cell.{Cell}
+use Rattle.std.specs.Prelude.{Bool, true, false, ◌||◌}
 use Rattle.circuit.specs.declared.cell.Op.{Op}
 use Rattle.circuit.specs.declared.cell.Op.TheVariants as op
 
@@ -42,16 +39,3 @@ is_shift _ = false
 
 abbrev pub is_arithmetic_or_shift : Op → Bool
 is_arithmetic_or_shift o = is_arithmetic o || is_shift o
-
--- a binary cell reads these two whole numbers
-pub record HasOperands (i : Inputs) (a b : ℤ) : Type 0 where
-  pub left : left i ≡ a
-  pub right : right i ≡ b
-  pub below : i.b.number < 2 ^ i.b.width
-
--- the inputs of a cell whose ports have these values
-pub record ReadsPorts (c : Cell) (a b : BitValue) (i : Inputs) : Type 0 where
-  pub a_signed : i.a_signed ≡ c.a_signed
-  pub b_signed : i.b_signed ≡ c.b_signed
-  pub first : i.a ≡ a
-  pub second : i.b ≡ b

@@ -1,3 +1,4 @@
 pub mod Wholes
 pub mod Kinds
 pub mod Shifts
+pub mod Operands

@@ -3,7 +3,8 @@ ghost use Rattle.std.specs.Prelude.{◌≡◌, ◌≢◌, ◌<◌, ◌≤◌, �
 ghost use Rattle.sim_base.specs.BitValue.{bit_value};
 ghost use Rattle.circuit.specs.Signal.{Digits, sig_value};
 ghost use Rattle.circuit.specs.Output.{Inputs, modulo, formula, truth, output};
-ghost use Rattle.cell_words.specs.Kinds.{is_division, is_comparison, is_binary, is_arithmetic, HasOperands, ReadsPorts};
+ghost use Rattle.cell_words.specs.Kinds.{is_division, is_comparison, is_binary, is_arithmetic};
+ghost use Rattle.cell_words.specs.Operands.{HasOperands, ReadsPorts};
 
 use crate::port::Port;
 use crate::whole::{Whole, low_ones};

@@ -513,3 +513,50 @@ fn shifts_of_many_words(rt: HostRuntime) -> Result<(), Fail> {
     assert!(rt; hold_wide::<Brand>(rt.alloc(), &rows, Blank::new(1))?);
     Ok(())
 }
+
+fn part(net: u32, at: u32, width: u32) -> Piece
+    ensures { result ≡ piece.Part net at width }
+{
+    Piece::Part { net, at, width }
+}
+
+/// The outputs of a store of two cells, after the second, a `$sub` of parts of two nets, was evaluated.
+fn outputs_over_nets<L: Ledger>(alloc: Global, blank: Blank) -> Result<(u128, u128, bool), NoMemory>
+    requires name { blank.name ≡ L.name }
+    requires parts { blank.parts ≡ L.parts }
+    requires some { 0 < blank.parts }
+{
+    let mut steps = Steps::<L>::new(blank);
+    let cell = Cell {
+        op: Op::Sub,
+        a: Items::from_vec(vec![in alloc; part(0, 4, 8), part(0, 0, 4)]?),
+        b: Items::from_vec(vec![in alloc; part(1, 0, 8)]?),
+        s: Items::new(alloc),
+        a_signed: false,
+        b_signed: false,
+        width: 12,
+        offset: 0,
+    };
+    let mut store = Store {
+        nets: Values::new(alloc),
+        cells: Values::new(alloc),
+        regs: Values::new(alloc),
+        reads: Values::new(alloc),
+    };
+    store.nets.push(value(alloc, 16, 0xA5C3)?)?;
+    store.nets.push(value(alloc, 8, 7)?)?;
+    store.cells.push(value(alloc, 3, 5)?)?;
+    store.cells.push(value(alloc, 12, 0x35C)?)?;
+    let changed = eval(&cell, &mut store, 1, &mut steps);
+    match store.cells.as_slice() {
+        [first, second] => Ok((number_of(first), number_of(second), changed)),
+        _ => Ok((0, 0, false)),
+    }
+}
+
+#[test]
+fn a_cell_reads_parts_of_nets(rt: HostRuntime) -> Result<(), Fail> {
+    let outputs = outputs_over_nets::<Brand>(rt.alloc(), Blank::new(1))?;
+    assert_eq!(rt; outputs, (5, 0x355, true));
+    Ok(())
+}
