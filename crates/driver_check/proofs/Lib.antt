@@ -11,3 +11,4 @@ pub mod Nexts
 pub mod Walked
 pub mod Noded
 pub mod Sourced
+pub mod Ended

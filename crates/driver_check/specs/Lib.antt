@@ -8,3 +8,4 @@ pub mod Vertices
 pub mod Sorting
 pub mod Walking
 pub mod Nodes
+pub mod Origins

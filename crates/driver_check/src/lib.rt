@@ -7,6 +7,7 @@ mod graph;
 mod nodes;
 mod numbering;
 mod ordering;
+mod origins;
 mod parts;
 mod plan;
 mod rows;

@@ -13,15 +13,10 @@ use Rattle.driver_check.specs.declared.search.Mark.TheVariants as mark
 use Rattle.driver_check.specs.declared.sorting.Sorting.{Sorting}
 use Rattle.driver_check.proofs.Places.{read, same, within}
 use Rattle.driver_check.proofs.Numbered.{bit_at_number}
+use Rattle.driver_check.proofs.Ended.{span_is}
 use Rattle.driver_check.proofs.Freedom.{graph_inside}
 use Rattle.driver_check.proofs.Nexts.{node_least, node_next, span_stuck, wire_next}
 use Rattle.driver_check.proofs.sorting.Sorting.next.Goals as goal
-
--- the span that was read is that of each bit with the number
-span_is : (c : Circuit) (s : Sorting) → IsSorting c s → (v : ℕ) (span : Span) → v < s.numbering.bits → span ≡ get_or s.graph.bits.items v span → (x : Bit) → IsBit c.nets x → number_of c.nets x ≡ v → span ≡ bit_span c x
-span_is c s is v span lt e x b at =
-    let here = read s.graph.bits.items v span (omega (arith, lt, is.numbers.total, is.graph.bits_long)) e in
-    same s.graph.bits.items v span (bit_span c x) here (subst (λ (u : ℕ). slice_get s.graph.bits.items u ≡ Some (bit_span c x)) at (is.graph.bit x b))
 
 pub row-requires : goal.row-requires
 row-requires c =
