@@ -2,9 +2,9 @@
 use Rattle.std.proofs.Common.{◌≡◌, ℕ, zero, suc, ◌+◌, ◌*◌, ◌^◌, ◌<◌, ◌≤◌, List, [], ◌∷◌, length, refl, sym, ◌∙◌, ap, subst, arith, inl, inr, Bool, true, false, ◌&&◌, Option, Some, None, nat_le, nat_lt}
 use Rattle.std.specs.Prelude.{slice_get}
 use Rattle.std.specs.List.{list_all}
-use Rattle.std.proofs.lemmas.Bool.{and_parts, leb-true, ltb-true}
+use Rattle.std.proofs.lemmas.Bool.{and_from, and_parts, le-leb, leb-true, ltb-true}
 use Rattle.circuit.specs.Free.{AreDrivesInside}
-use Rattle.circuit.specs.Valid.{cell_fits, cell_holds, port_holds, counts_fit, diag_fits, drive_fits, driver_fits, address_width, inputs_fit, is_countable, is_valid, item_fits, mem_fits, names_differ, names_rise, net_holds, piece_fits, reaches, read_fits, register_fits, sig_fits, sig_of, widths_fit, widths_of, write_fits, scope_fits, slot_count, slots_run, widest}
+use Rattle.circuit.specs.Valid.{cell_fits, input_holds, ports_of, register_has, register_holds, cell_holds, port_holds, counts_fit, diag_fits, drive_fits, driver_fits, address_width, inputs_fit, is_countable, is_valid, item_fits, mem_fits, names_differ, names_rise, net_holds, piece_fits, reaches, read_fits, register_fits, sig_fits, sig_of, widths_fit, widths_of, write_fits, scope_fits, slot_count, slots_run, widest}
 use Rattle.std.specs.List.{list_any}
 use Rattle.std.specs.Prelude.{◌==◌}
 use Rattle.circuit.specs.Signal.{Reads, sig_width}
@@ -14,8 +14,11 @@ use Rattle.circuit.specs.declared.netlist.Drive.{Drive}
 use Rattle.circuit.specs.declared.netlist.Net.{Net}
 use Rattle.circuit.specs.declared.cell.Cell.{Cell}
 use Rattle.circuit.specs.declared.memory.Mem.{Mem}
+use Rattle.circuit.specs.declared.register.Reg.{Reg}
 use Rattle.circuit.specs.declared.memory.ReadPort.{ReadPort}
+use Rattle.circuit.specs.declared.netlist.By.{By}
 use Rattle.circuit.specs.declared.netlist.By.TheVariants as by
+use Rattle.sim_base.specs.BitValue.{BitValue}
 use Rattle.circuit.specs.declared.netlist.Piece.{Piece}
 use Rattle.circuit.specs.declared.netlist.Piece.TheVariants as piece
 use Rattle.driver_check.specs.Numbers.{IsBit, before, width_of}
@@ -221,3 +224,111 @@ module _ (c : Circuit) (valid : is_valid c ≡ true) where
       let rest : Bool = is_countable (length c.regs) && (is_countable (length c.mems) && (is_countable (length c.inputs) && (is_countable (length c.scopes) && is_countable (slot_count c)))) in
       let a = and_parts (is_countable (length c.nets)) (is_countable (length c.cells) && rest) counts in
       ltb-true (length c.cells) (2 ^ 32) (and_parts (is_countable (length c.cells)) rest a.1).0
+
+  -- ---- how far what drives reaches
+  cell_width : (n : ℕ) (x : Cell) → slice_get c.cells n ≡ Some x → x.width ≤ 65536
+  cell_width n x e =
+      let tail : Bool = sig_fits c x.s && (nat_le x.width widest && widths_fit x.op (widths_of x)) in
+      let a = and_parts (sig_fits c x.a) (sig_fits c x.b && tail) (cell_fits_at n x e) in
+      let b = and_parts (sig_fits c x.b) tail a.1 in
+      let d = and_parts (sig_fits c x.s) (nat_le x.width widest && widths_fit x.op (widths_of x)) b.1 in
+      leb-true x.width widest (and_parts (nat_le x.width widest) (widths_fit x.op (widths_of x)) d.1).0
+
+  reg_width : (n : ℕ) (r : Reg) → slice_get c.regs n ≡ Some r → r.width ≤ 65536
+  reg_width n r e =
+      let h = all_at (register_fits c) c.regs fifth_part.0 n r e in
+      leb-true r.width widest (and_parts (nat_le r.width widest) (register_has c (ports_of r.kind) r && (r.value.width == r.width && r.init.width == r.width)) h).0
+
+  mem_width : (n : ℕ) (m : Mem) → slice_get c.mems n ≡ Some m → m.width ≤ 65536
+  mem_width n m e =
+      let tail : Bool = list_all (read_fits c m (address_width m.reads m.writes)) m.reads && list_all (write_fits c m (address_width m.reads m.writes)) m.writes in
+      leb-true m.width widest (and_parts (nat_le m.width widest) (m.init.width == m.size * m.width && (is_countable (length m.reads) && tail)) (mem_fits_at n m e)).0
+
+  held_net : (net end : ℕ) → net_holds c net end ≡ true → end ≤ 65536
+  held_net net end h = let x = holds_net c net end h in let w = net_width net x.0 x.1 in omega (arith, w, x.2)
+
+  held_input : (end : ℕ) (o : Option ℕ) → input_holds c end o ≡ true → end ≤ 65536
+  held_input end None h = absurd (let z : false ≡ true = h in cc z)
+  held_input end (Some net) h = held_net net end h
+
+  held_cell : (n end : ℕ) (o : Option Cell) → slice_get c.cells n ≡ o → cell_holds end o ≡ true → end ≤ 65536
+  held_cell n end None e h = absurd (let z : false ≡ true = h in cc z)
+  held_cell n end (Some x) e h = let w = cell_width n x e in let l = leb-true end x.width h in omega (arith, w, l)
+
+  held_reg : (n end : ℕ) (o : Option Reg) → slice_get c.regs n ≡ o → register_holds end o ≡ true → end ≤ 65536
+  held_reg n end None e h = absurd (let z : false ≡ true = h in cc z)
+  held_reg n end (Some r) e h = let w = reg_width n r e in let l = leb-true end r.width h in omega (arith, w, l)
+
+  held_mem : (m n end : ℕ) (o : Option Mem) → slice_get c.mems m ≡ o → port_holds n end o ≡ true → end ≤ 65536
+  held_mem m n end None e h = absurd (let z : false ≡ true = h in cc z)
+  held_mem m n end (Some x) e h = let w = mem_width m x e in let l = leb-true end x.width (and_parts (nat_lt n (length x.reads)) (nat_le end x.width) h).1 in omega (arith, w, l)
+
+  -- the end of what drives, where it is no constant
+  abbrev EndsLow : By → ℕ → Type 0
+  EndsLow (by.Const v) width = Unit {0}
+  EndsLow (by.Input n at) width = at + width ≤ 65536
+  EndsLow (by.Wire n at) width = at + width ≤ 65536
+  EndsLow (by.Cell n at) width = at + width ≤ 65536
+  EndsLow (by.Reg n at) width = at + width ≤ 65536
+  EndsLow (by.Read m n at) width = at + width ≤ 65536
+
+  ends_low : (b : By) (width : ℕ) → driver_fits c width b ≡ true → EndsLow b width
+  ends_low (by.Const v) width h = tt
+  ends_low (by.Input n at) width h = held_input (at + width) (slice_get c.inputs n) h
+  ends_low (by.Wire n at) width h = held_net n (at + width) h
+  ends_low (by.Cell n at) width h = held_cell n (at + width) (slice_get c.cells n) refl h
+  ends_low (by.Reg n at) width h = held_reg n (at + width) (slice_get c.regs n) refl h
+  ends_low (by.Read m n at) width h = held_mem m n (at + width) (slice_get c.mems m) refl h
+
+  pub drive_ends : (d : Drive) → drive_fits c d ≡ true → (b : By) → d.by ≡ b → EndsLow b d.width
+  drive_ends d fits b is = ends_low b d.width (sym (ap (driver_fits c d.width) is) ∙ (and_parts (net_holds c d.net (d.at + d.width)) (driver_fits c d.width d.by) fits).1)
+
+-- ---- a part of what drives
+
+pub net_less : (c : Circuit) (net end low : ℕ) → low ≤ end → net_holds c net end ≡ true → net_holds c net low ≡ true
+net_less c net end low le h = less (slice_get c.nets net) h
+  where
+    less : (o : Option Net) → reaches end o ≡ true → reaches low o ≡ true
+    less None k = k
+    less (Some x) k = le-leb low x.width (let l = leb-true end x.width k in omega (arith, l, le))
+
+input_less : (c : Circuit) (end low : ℕ) → low ≤ end → (o : Option ℕ) → input_holds c end o ≡ true → input_holds c low o ≡ true
+input_less c end low le None h = h
+input_less c end low le (Some net) h = net_less c net end low le h
+
+cell_less : (end low : ℕ) → low ≤ end → (o : Option Cell) → cell_holds end o ≡ true → cell_holds low o ≡ true
+cell_less end low le None h = h
+cell_less end low le (Some x) h = le-leb low x.width (let l = leb-true end x.width h in omega (arith, l, le))
+
+reg_less : (end low : ℕ) → low ≤ end → (o : Option Reg) → register_holds end o ≡ true → register_holds low o ≡ true
+reg_less end low le None h = h
+reg_less end low le (Some x) h = le-leb low x.width (let l = leb-true end x.width h in omega (arith, l, le))
+
+mem_less : (n end low : ℕ) → low ≤ end → (o : Option Mem) → port_holds n end o ≡ true → port_holds n low o ≡ true
+mem_less n end low le None h = h
+mem_less n end low le (Some x) h =
+    let p = and_parts (nat_lt n (length x.reads)) (nat_le end x.width) h in
+    and_from (nat_lt n (length x.reads)) (nat_le low x.width) p.0 (le-leb low x.width (let l = leb-true end x.width p.1 in omega (arith, l, le)))
+
+-- what drives, from a later bit on
+abbrev pub moved_by : By → ℕ → By
+moved_by (by.Const v) offset = by.Const v
+moved_by (by.Input n at) offset = by.Input n (at + offset)
+moved_by (by.Wire n at) offset = by.Wire n (at + offset)
+moved_by (by.Cell n at) offset = by.Cell n (at + offset)
+moved_by (by.Reg n at) offset = by.Reg n (at + offset)
+moved_by (by.Read m n at) offset = by.Read m n (at + offset)
+
+pub moved_fits : (c : Circuit) (d : Drive) → drive_fits c d ≡ true → (b : By) → d.by ≡ b → ((v : BitValue) → b ≡ by.Const v → ⊥) → (offset count : ℕ) → offset + count ≤ d.width → driver_fits c count (moved_by b offset) ≡ true
+moved_fits c d fits b is other offset count le = by_by b is other (sym (ap (driver_fits c d.width) is) ∙ (and_parts (net_holds c d.net (d.at + d.width)) (driver_fits c d.width d.by) fits).1)
+  where
+    by_by : (k : By) → d.by ≡ k → ((v : BitValue) → k ≡ by.Const v → ⊥) → driver_fits c d.width k ≡ true → driver_fits c count (moved_by k offset) ≡ true
+    by_by (by.Const v) e o h = absurd (o v refl)
+    by_by (by.Input n at) e o h = input_less c (at + d.width) (at + offset + count) (omega (arith, le)) (slice_get c.inputs n) h
+    by_by (by.Wire n at) e o h = net_less c n (at + d.width) (at + offset + count) (omega (arith, le)) h
+    by_by (by.Cell n at) e o h = cell_less (at + d.width) (at + offset + count) (omega (arith, le)) (slice_get c.cells n) h
+    by_by (by.Reg n at) e o h = reg_less (at + d.width) (at + offset + count) (omega (arith, le)) (slice_get c.regs n) h
+    by_by (by.Read m n at) e o h = mem_less n (at + d.width) (at + offset + count) (omega (arith, le)) (slice_get c.mems m) h
+
+pub fits_inside : (c : Circuit) (d : Drive) → drive_fits c d ≡ true → (x : Net) × (slice_get c.nets d.net ≡ Some x) × (d.at + d.width ≤ x.width)
+fits_inside c d fits = holds_net c d.net (d.at + d.width) (and_parts (net_holds c d.net (d.at + d.width)) (driver_fits c d.width d.by) fits).0

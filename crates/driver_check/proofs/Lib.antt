@@ -12,3 +12,4 @@ pub mod Walked
 pub mod Noded
 pub mod Sourced
 pub mod Ended
+pub mod Rooted

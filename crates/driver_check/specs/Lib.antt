@@ -9,3 +9,4 @@ pub mod Sorting
 pub mod Walking
 pub mod Nodes
 pub mod Origins
+pub mod Roots

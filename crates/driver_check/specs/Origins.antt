@@ -24,3 +24,7 @@ pub record IsOrigin (c : Circuit) (x : Bit) (v : ℕ) : Type 0 where
 -- the origins of the bits among the first t vertices of an order
 abbrev pub AreOrigins : Circuit → List ℕ → ℕ → List ℕ → Type 0
 AreOrigins c order t origins = (i : ℕ) (x : Bit) → i < t → IsBit c.nets x → slice_get order i ≡ Some (number_of c.nets x) → IsOrigin c x (slice_index origins (number_of c.nets x))
+
+-- the origins of all bits
+abbrev pub AreAllOrigins : Circuit → List ℕ → Type 0
+AreAllOrigins c origins = (x : Bit) → IsBit c.nets x → IsOrigin c x (slice_index origins (number_of c.nets x))

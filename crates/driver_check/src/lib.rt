@@ -10,6 +10,7 @@ mod ordering;
 mod origins;
 mod parts;
 mod plan;
+mod roots;
 mod rows;
 mod search;
 mod sorting;
