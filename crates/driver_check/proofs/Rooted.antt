@@ -15,9 +15,10 @@ use Rattle.driver_check.specs.Numbers.{IsBit, IsIn, bit_count, number_of, start_
 use Rattle.driver_check.specs.Ordered.{CellBit, Digit, InputBit, ReadBit, RegBit, Source, source_at, source_by, source_within}
 use Rattle.driver_check.specs.Origins.{AreAllOrigins, IsOrigin, IsWire}
 use Rattle.driver_check.specs.Owners.{AreOwners}
-use Rattle.driver_check.specs.Roots.{AreRootsOf, CoversIn, IsDone, IsRoot, IsRun, root_source}
+use Rattle.driver_check.specs.Roots.{AreRoots, AreRootsOf, CoversIn, IsDone, IsRoot, IsRun, root_source}
 use Rattle.driver_check.proofs.Places.{kept, last, pushed, same, within}
-use Rattle.driver_check.proofs.Numbered.{bit_below}
+use Rattle.driver_check.proofs.Numbered.{bit_at_number, bit_below}
+use Rattle.driver_check.proofs.Linked.{drive_at}
 use Rattle.driver_check.proofs.Owned.{covered_is_bit, covers_from, covers_in, covers_parts, nobody_drive, offset_is, owner_drive, owner_has}
 
 -- what is no wire names a source
@@ -166,7 +167,7 @@ module _ (c : Circuit) (inside : AreDrivesInside c) (once : IsDrivenOnce c) (own
             let s = named_source (source_within c 0) e.by (o.bit.1 - e.at) (o.ends e (origin_drive x i)) in
             let src = o.leads 1 s.0 (first_source c o.bit e (origin_drive x i) s.0 s.1) in
             let step : root_source r.by (x.1 - r.at) ≡ root_source e.by (origin - start_of c.nets e + place_in x) =
-                ap (λ (k : ℕ). root_source r.by (x.1 - k)) r_at ∙ source (place_in x) (omega (arith, i.1, i.2)) in
+            ap (λ (k : ℕ). root_source r.by (x.1 - k)) r_at ∙ source (place_in x) (omega (arith, i.1, i.2)) in
             let same_place : origin - start_of c.nets e + place_in x ≡ o.bit.1 - e.at = omega (arith, off, o.number, origin_in.0) in
             (src.0, s.0, src.1, step ∙ ap (root_source e.by) same_place ∙ s.2);
       }
@@ -185,20 +186,20 @@ module _ (c : Circuit) (inside : AreDrivesInside c) (once : IsDrivenOnce c) (own
         ];
         whole = λ k u x h done. elim (newly k u x h done) [
           | inl old ↦ elim (was.whole k u x h old) [
-              | inl w ↦ inl (w.0, w.1, (kept roots (r ∷ []) w.0 w.1 w.2.0, w.2.1))
-              | inr w ↦ inr w
-            ]
+            | inl w ↦ inl (w.0, w.1, (kept roots (r ∷ []) w.0 w.1 w.2.0, w.2.1))
+            | inr w ↦ inr w
+          ]
           | inr new ↦ inl (length roots, r, (last roots r, bit_root x new.1))
         ];
         once = λ i j u q x h g. elim (pushed roots r i u h.0) [
           | inl y ↦ elim (pushed roots r j q g.0) [
-              | inl z ↦ was.once i j u q x (y, h.1) (z, g.1)
-              | inr z ↦ absurd (clash i u x (y, h.1) (subst (λ (w : Drive). covers x.0 x.1 w ≡ true) (sym z.1) g.1))
-            ]
+            | inl z ↦ was.once i j u q x (y, h.1) (z, g.1)
+            | inr z ↦ absurd (clash i u x (y, h.1) (subst (λ (w : Drive). covers x.0 x.1 w ≡ true) (sym z.1) g.1))
+          ]
           | inr y ↦ elim (pushed roots r j q g.0) [
-              | inl z ↦ absurd (clash j q x (z, g.1) (subst (λ (w : Drive). covers x.0 x.1 w ≡ true) (sym y.1) h.1))
-              | inr z ↦ y.0 ∙ sym z.0
-            ]
+            | inl z ↦ absurd (clash j q x (z, g.1) (subst (λ (w : Drive). covers x.0 x.1 w ≡ true) (sym y.1) h.1))
+            | inr z ↦ y.0 ∙ sym z.0
+          ]
         ];
       }
         where
@@ -224,14 +225,39 @@ drive_done c p a d at full roots was = record {
   claimed = λ i r x h. let k = was.claimed i r x h in (k.0, k.1, k.2, elim k.3 [ inl lt ↦ inl (omega (arith, lt)) | inr e ↦ inl (omega (arith, e.0)) ]);
   whole = λ k e x h done. was.whole k e x h (elim done [
     | inl lt ↦ elim (cases_eq k p) [
-        | inl eq ↦
-            (let z : e ≡ d = same c.drives p e d (subst (λ (i : ℕ). slice_get c.drives i ≡ Some e) eq h.0) at in
-            let w : e.width ≡ d.width = ap (λ (u : Drive). u.width) z in
-            let q = covers_parts e x.0 x.1 h.1 in
-            inr (eq, omega (arith, q.2, w, full)))
-        | inr ne ↦ inl (omega (arith, lt, ne))
-      ]
+      | inl eq ↦
+          (let z : e ≡ d = same c.drives p e d (subst (λ (i : ℕ). slice_get c.drives i ≡ Some e) eq h.0) at in
+          let w : e.width ≡ d.width = ap (λ (u : Drive). u.width) z in
+          let q = covers_parts e x.0 x.1 h.1 in
+          inr (eq, omega (arith, q.2, w, full)))
+      | inr ne ↦ inl (omega (arith, lt, ne))
+    ]
     | inr far ↦ absurd (let q = covers_parts e x.0 x.1 h.1 in omega (arith, q.1, far.1))
   ]);
   once = was.once;
 }
+
+-- the roots of all drives
+pub all_roots : (c : Circuit) (p : ℕ) → length c.drives ≤ p → (roots : List Drive) → AreRootsOf c p 0 roots → AreRoots c roots
+all_roots c p end roots was = record {
+  right = was.right;
+  once = was.once;
+  undriven = λ x none. by_drive x none (drive_of c x.0 x.1) refl;
+}
+  where
+    by_drive : (x : Bit) → ((i : ℕ) (r : Drive) → CoversIn roots i r x → ⊥) → (o : Option Drive) → drive_of c x.0 x.1 ≡ o → (s : ℕ) × (source_within c s x.0 x.1 ≡ Some (Digit 0))
+    by_drive x none None e = (1, first_none c x e)
+    by_drive x none (Some d) e =
+        let k = drive_at c x d e in
+        elim (was.whole k.0 d x (k.1, k.2) (inl (let lt = within c.drives k.0 d k.1 in omega (arith, lt, end)))) [
+          | inl r ↦ absurd (none r.0 r.1 r.2)
+          | inr h ↦ h
+        ]
+
+-- an origin is the number of a bit
+pub origins_below : (c : Circuit) (origins : List ℕ) → AreAllOrigins c origins → (v : ℕ) → v < bit_count c.nets → slice_index origins v < bit_count c.nets
+origins_below c origins are v lt =
+    let x = bit_at_number c.nets v lt in
+    let o = are x.0 x.1 in
+    let h = bit_below c.nets o.bit o.inside in
+    subst (λ (u : ℕ). slice_index origins u < bit_count c.nets) x.2 (omega (arith, h, o.number))

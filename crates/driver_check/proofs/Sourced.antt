@@ -2,6 +2,7 @@
 use Rattle.std.proofs.Common.{◌≡◌, ◌≢◌, ℕ, zero, suc, ◌+◌, ◌-◌, ◌<◌, ◌≤◌, ◌⊎◌, List, [], ◌∷◌, ◌++◌, length, refl, sym, ◌∙◌, ap, subst, arith, inl, inr, true, false, Option, Some, None}
 use Rattle.std.specs.Prelude.{slice_get}
 use Rattle.std.specs.Int.{bit_at}
+use Rattle.circuit.specs.Free.{IsInOrder}
 use Rattle.circuit.specs.Valid.{is_valid}
 use Rattle.circuit.specs.Valuation.{drive_of}
 use Rattle.circuit.specs.declared.netlist.Circuit.{Circuit}
@@ -21,7 +22,7 @@ use Rattle.driver_check.specs.declared.plan.Node.TheVariants as node
 use Rattle.driver_check.specs.declared.search.Mark.TheVariants as mark
 use Rattle.driver_check.specs.declared.sorting.Sorting.{Sorting}
 use Rattle.driver_check.proofs.Places.{same, within}
-use Rattle.driver_check.proofs.Freedom.{earlier, node_below, row_bit, row_node}
+use Rattle.driver_check.proofs.Freedom.{bit_in_graph, earlier, node_below, row_bit, row_node, stuck_stuck}
 use Rattle.driver_check.proofs.Linked.{back, drive_at, needs_node, node_bits, node_needs, one_needs}
 use Rattle.driver_check.proofs.Noded.{behind_node, node_part, nodes_single}
 use Rattle.driver_check.proofs.Fitting.{cell_there, drive_fits_at, drives_inside}
@@ -178,3 +179,11 @@ module _ (c : Circuit) (valid : is_valid c ≡ true) (s : Sorting) (is : IsSorti
           let b = covered_is_bit c (drives_inside c valid) at.0 (net, bit) (d, at.1, at.2) in
           let i = is.sorted.done_order (number_of c.nets (net, bit)) (done (net, bit) b) in
           source_up_to (suc i.0) (net, bit) i.0 (omega arith) b i.1
+
+-- in a circuit in order all bits are done
+pub all_done : (c : Circuit) (valid : is_valid c ≡ true) (s : Sorting) (is : IsSorting c s) → IsInOrder c → (x : Bit) → IsBit c.nets x → Has s.search.marks.items mark.Done (number_of c.nets x)
+all_done c valid s is order x b =
+    elim (is.sorted.either (number_of c.nets x) (bit_in_graph c valid s.parts.nodes.items s.parts.ports.items is.parts s.graph is.graph x b)) [
+      | inl done ↦ done
+      | inr stuck ↦ absurd (stuck_stuck c valid s.parts.nodes.items s.parts.ports.items is.parts s.graph is.graph s.search.marks.items s.search.order.items is.sorted x b stuck (order.free x.0 x.1))
+    ]

@@ -35,3 +35,12 @@ pub record AreRootsOf (c : Circuit) (p a : ℕ) (roots : List Drive) : Type 0 wh
 -- from a bit on, so many bits have origins in a row, which have one owner
 abbrev pub IsRun : List ℕ → List ℕ → ℕ → ℕ → Type 0
 IsRun owners origins first count = (j : ℕ) → j < count → (slice_index origins (first + j) ≡ slice_index origins first + j) × (slice_index owners (slice_index origins first + j) ≡ slice_index owners (slice_index origins first))
+
+-- the roots of a circuit
+pub record AreRoots (c : Circuit) (roots : List Drive) : Type 0 where
+  -- each lies inside its net and names the source of each bit that it covers
+  pub right : (i : ℕ) (r : Drive) → slice_get roots i ≡ Some r → IsRoot c r
+  -- no two share a bit
+  pub once : (i j : ℕ) (r q : Drive) (x : Bit) → CoversIn roots i r x → CoversIn roots j q x → i ≡ j
+  -- a bit that no root covers has no driver at the end of its wires, and is 0
+  pub undriven : (x : Bit) → ((i : ℕ) (r : Drive) → CoversIn roots i r x → ⊥) → (s : ℕ) × (source_within c s x.0 x.1 ≡ Some (Digit 0))

@@ -5,10 +5,13 @@ ghost use Rattle.circuit.specs.Valid.{is_valid};
 ghost use Rattle.circuit.specs.declared.fault.DesignKind.TheVariants as kind;
 ghost use Rattle.driver_check.specs.Faults.{SaysFault, SaysLoop, SaysTwoDrivers};
 ghost use Rattle.driver_check.specs.Ordered.{IsOrdered};
+ghost use Rattle.driver_check.specs.Roots.{AreRoots};
 ghost use Rattle.driver_check.specs.Sorting.{IsSorting};
 
 use crate::nodes::nodes_of;
+use crate::origins::origins_of;
 use crate::plan::Plan;
+use crate::roots::roots_of;
 use crate::sorting::{Sorting, sort_circuit};
 use crate::walk::comb_loop;
 use circuit::{Circuit, DesignFault, DesignKind};
@@ -61,17 +64,19 @@ fn plan_of(alloc: Global, circuit: &Circuit, sorting: &Sorting) -> Result<Plan, 
     requires valid { is_valid circuit.now ≡ true }
     requires sorting { IsSorting circuit.now sorting.now }
     requires order { IsInOrder circuit.now }
-    ensures { IfOk result (λ p. IsOrdered circuit.now p.nodes) }
+    ensures nodes { IfOk result (λ p. IsOrdered circuit.now p.nodes) }
+    ensures roots { IfOk result (λ p. AreRoots circuit.now p.roots) }
 {
-    Ok(Plan {
-        nodes: nodes_of(alloc, circuit, sorting)?,
-    })
+    let nodes = nodes_of(alloc, circuit, sorting)?;
+    let origins = origins_of(alloc, circuit, sorting)?;
+    let roots = roots_of(alloc, circuit, sorting, &origins)?;
+    Ok(Plan { nodes, roots })
 }
 
 /// The plan of a circuit, or why it has none.
 fn plan_or_fault(alloc: Global, circuit: &Circuit) -> Result<Result<Plan, DesignFault>, NoMemory>
     requires { is_valid circuit.now ≡ true }
-    ensures { IfOk result (λ r. MatchResult r (λ p. IsOrdered circuit.now p.nodes × IsInOrder circuit.now) (λ f. SaysFault circuit.now f)) }
+    ensures { IfOk result (λ r. MatchResult r (λ p. IsOrdered circuit.now p.nodes × (AreRoots circuit.now p.roots × IsInOrder circuit.now)) (λ f. SaysFault circuit.now f)) }
 {
     match sort_in_order(alloc, circuit)? {
         Ok(sorting) => Ok(Ok(plan_of(alloc, circuit, &sorting)?)),
@@ -79,12 +84,13 @@ fn plan_or_fault(alloc: Global, circuit: &Circuit) -> Result<Result<Plan, Design
     }
 }
 
-/// Orders the nodes of a circuit, where each bit has one driver at most and none depends on itself. The
+/// Orders the nodes of a circuit and finds where each bit comes from, where each bit has one driver at most and none depends on itself. The
 /// time and the memory are in proportion to the bits of the nets, the drives, and the bits that cells and
 /// read ports read; nothing recurses.
 pub fn order(alloc: Global, circuit: &Circuit) -> Result<Plan, DesignFault>
     requires { is_valid circuit.now ≡ true }
-    ensures plan { IfOk result (λ p. IsOrdered circuit.now p.nodes) }
+    ensures nodes { IfOk result (λ p. IsOrdered circuit.now p.nodes) }
+    ensures roots { IfOk result (λ p. AreRoots circuit.now p.roots) }
     ensures in_order { OnOk result (IsInOrder circuit.now) }
     ensures two_drivers { IfErr result (λ f. f.kind ≡ kind.TwoDrivers → SaysTwoDrivers circuit.now f) }
     ensures comb_loop { IfErr result (λ f. f.kind ≡ kind.CombLoop → IsDrivenOnce circuit.now × SaysLoop circuit.now f) }

@@ -13,7 +13,13 @@ use sim_base::NoMemory;
 use std::alloc::Global;
 
 /// The origin of the bit with a number: that of the bit at the other end of its wire, or the bit itself.
-fn origin_of(circuit: &Circuit, sorting: &Sorting, origins: &[usize], place: usize, number: usize) -> usize
+fn origin_of(
+    circuit: &Circuit,
+    sorting: &Sorting,
+    origins: &[usize],
+    place: usize,
+    number: usize,
+) -> usize
     requires valid { is_valid circuit.now ≡ true }
     requires sorting { IsSorting circuit.now sorting.now }
     requires length { length origins.now ≡ sorting.now.numbering.bits }
@@ -53,7 +59,11 @@ fn note_origin(circuit: &Circuit, sorting: &Sorting, origins: &mut Vec<usize>, p
 }
 
 /// The number of the bit at which the wires from each bit end.
-pub fn origins_of(alloc: Global, circuit: &Circuit, sorting: &Sorting) -> Result<Vec<usize>, NoMemory>
+pub fn origins_of(
+    alloc: Global,
+    circuit: &Circuit,
+    sorting: &Sorting,
+) -> Result<Vec<usize>, NoMemory>
     requires valid { is_valid circuit.now ≡ true }
     requires sorting { IsSorting circuit.now sorting.now }
     ensures { IfOk result (λ r. (length r.items ≡ sorting.now.numbering.bits) × AreOrigins circuit.now sorting.now.search.order.items (length sorting.now.search.order.items) r.items) }

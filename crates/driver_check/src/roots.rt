@@ -6,7 +6,7 @@ ghost use Rattle.circuit.specs.Free.{IsInOrder};
 ghost use Rattle.circuit.specs.declared.netlist.Drive.{Drive as TheDrive};
 ghost use Rattle.driver_check.specs.Numbers.{start_of};
 ghost use Rattle.driver_check.specs.Origins.{AreAllOrigins};
-ghost use Rattle.driver_check.specs.Roots.{AreRootsOf, IsRun, root_source};
+ghost use Rattle.driver_check.specs.Roots.{AreRoots, AreRootsOf, IsRun, root_source};
 ghost use Rattle.driver_check.specs.Sorting.{IsSorting};
 
 use crate::sorting::Sorting;
@@ -16,7 +16,13 @@ use sqlite_items::Items;
 use std::alloc::Global;
 
 /// What drives, from the bit at `offset` of a drive on, for so many bits.
-fn shifted(alloc: Global, circuit: &Circuit, drive: &Drive, offset: u32, count: u32) -> Result<By, NoMemory>
+fn shifted(
+    alloc: Global,
+    circuit: &Circuit,
+    drive: &Drive,
+    offset: u32,
+    count: u32,
+) -> Result<By, NoMemory>
     requires valid { is_valid circuit.now ≡ true }
     requires fits { drive_fits circuit.now drive.now ≡ true }
     requires within { offset + count ≤ drive.now.width }
@@ -129,7 +135,77 @@ fn push_run(
     let origin = origins[start + at as usize];
     let owner = sorting.owners[origin];
     if owner < drives.len() {
-        roots.push(root_of(alloc, circuit, sorting, drive, at, count, &drives[owner], origin)?)?;
+        roots.push(root_of(
+            alloc,
+            circuit,
+            sorting,
+            drive,
+            at,
+            count,
+            &drives[owner],
+            origin,
+        )?)?;
     }
     Ok(())
+}
+
+/// Adds the roots of a drive.
+fn push_drive(
+    alloc: Global,
+    circuit: &Circuit,
+    sorting: &Sorting,
+    origins: &[usize],
+    place: usize,
+    roots: &mut Items<Drive>,
+) -> Result<(), NoMemory>
+    requires valid { is_valid circuit.now ≡ true }
+    requires sorting { IsSorting circuit.now sorting.now }
+    requires order { IsInOrder circuit.now }
+    requires origins { AreAllOrigins circuit.now origins.now }
+    requires length { length origins.now ≡ sorting.now.numbering.bits }
+    requires there { place < length circuit.now.drives }
+    requires roots { AreRootsOf circuit.now place 0 roots.old }
+    ensures { OnOk result (AreRootsOf circuit.now (place + 1) 0 roots.new) }
+{
+    let drive = &circuit.drives.as_slice()[place];
+    let start = sorting.numbering.start(circuit.nets.as_slice(), drive);
+    let width = drive.width as usize;
+    let mut at = 0usize;
+    while at < width {
+        let count = run_length(&sorting.owners, origins, start + at, width - at);
+        push_run(
+            alloc,
+            circuit,
+            sorting,
+            origins,
+            place,
+            at as u32,
+            count as u32,
+            roots,
+        )?;
+        at += count;
+    }
+    Ok(())
+}
+
+/// The drives with the wires between left out: each root gives bits that no other gives, and names where
+/// they come from.
+pub fn roots_of(
+    alloc: Global,
+    circuit: &Circuit,
+    sorting: &Sorting,
+    origins: &[usize],
+) -> Result<Items<Drive>, NoMemory>
+    requires valid { is_valid circuit.now ≡ true }
+    requires sorting { IsSorting circuit.now sorting.now }
+    requires order { IsInOrder circuit.now }
+    requires origins { AreAllOrigins circuit.now origins.now }
+    requires length { length origins.now ≡ sorting.now.numbering.bits }
+    ensures { IfOk result (λ roots. AreRoots circuit.now roots) }
+{
+    let mut roots = Items::new(alloc);
+    for place in 0..circuit.drives.len() {
+        push_drive(alloc, circuit, sorting, origins, place, &mut roots)?;
+    }
+    Ok(roots)
 }

@@ -323,3 +323,40 @@ fn nodes_stand_behind_what_they_depend_on(rt: HostRuntime) -> Result<(), Fail> {
     );
     Ok(())
 }
+
+/// A root by its net, its first bit and its width, and the cell and the bit of it that it takes.
+type RootRow = (u32, u32, u32, u32, u32);
+
+#[test]
+fn roots_go_through_wires(rt: HostRuntime) -> Result<(), Fail> {
+    let alloc = rt.alloc();
+    let rows = Rows {
+        nets: &[("\\g", 2), ("\\p", 4), ("\\q", 4), ("\\r", 6)],
+        drives: &[
+            (3, 0, 4, Driver::Wire(2, 0)),
+            (2, 0, 2, Driver::Wire(1, 2)),
+            (2, 2, 2, Driver::Wire(0, 0)),
+            (1, 0, 4, Driver::Cell(0, 1)),
+        ],
+        cells: &[(5, (0, 0, 2), (0, 0, 2))],
+        ports: &[],
+    };
+    let circuit = circuit_of(alloc, &rows)?;
+    if !circuit.validate() {
+        return Err(Fail::from("the circuit is not valid"));
+    }
+    let Ok(plan) = order(alloc, &circuit) else {
+        return Err(Fail::from("the circuit has no order"));
+    };
+    let wanted: [RootRow; 3] = [(3, 0, 2, 0, 3), (2, 0, 2, 0, 3), (1, 0, 4, 0, 1)];
+    assert_eq!(&rt; plan.roots.len(), wanted.len());
+    for (root, row) in plan.roots.as_slice().iter().zip(wanted.iter()) {
+        assert_eq!(&rt; (root.net, root.at, root.width), (row.0, row.1, row.2));
+        let taken = match root.by {
+            By::Cell(cell, at) => Some((cell, at)),
+            _ => None,
+        };
+        assert!(&rt; taken == Some((row.3, row.4)));
+    }
+    Ok(())
+}

@@ -15,7 +15,7 @@ start-start-requires-clause-inside c =
     let circuit = c.args.circuit.now in
     let d : Drive = c.index-drives-place.result in
     let at : slice_get circuit.drives c.args.place ≡ Some d = subst (λ (xs : List Drive). slice_get xs c.args.place ≡ Some d) c.as_slice-drives.ensures
-        (read c.as_slice-drives.result.now c.args.place d (omega (arith, c.requires.there, ap (λ (xs : List Drive). length xs) c.as_slice-drives.ensures)) c.index-drives-place.is) in
+    (read c.as_slice-drives.result.now c.args.place d (omega (arith, c.requires.there, ap (λ (xs : List Drive). length xs) c.as_slice-drives.ensures)) c.index-drives-place.is) in
     subst (λ (nets : List Net). IsInsideNet nets d) (sym c.as_slice.ensures) (drives_inside circuit c.requires.valid c.args.place d at)
 
 pub bounds-origins-start : goal.bounds-origins-start
@@ -23,7 +23,7 @@ bounds-origins-start c =
     let circuit = c.args.circuit.now in
     let d : Drive = c.index-drives-place.result in
     let at : slice_get circuit.drives c.args.place ≡ Some d = subst (λ (xs : List Drive). slice_get xs c.args.place ≡ Some d) c.as_slice-drives.ensures
-        (read c.as_slice-drives.result.now c.args.place d (omega (arith, c.requires.there, ap (λ (xs : List Drive). length xs) c.as_slice-drives.ensures)) c.index-drives-place.is) in
+    (read c.as_slice-drives.result.now c.args.place d (omega (arith, c.requires.there, ap (λ (xs : List Drive). length xs) c.as_slice-drives.ensures)) c.index-drives-place.is) in
     omega (arith, c.start-start.ensures.inside, c.requires.inside d at, c.requires.some, c.requires.length)
 
 pub index-owner-requires : goal.index-owner-requires
@@ -31,7 +31,7 @@ index-owner-requires c =
     let circuit = c.args.circuit.now in
     let d : Drive = c.index-drives-place.result in
     let at : slice_get circuit.drives c.args.place ≡ Some d = subst (λ (xs : List Drive). slice_get xs c.args.place ≡ Some d) c.as_slice-drives.ensures
-        (read c.as_slice-drives.result.now c.args.place d (omega (arith, c.requires.there, ap (λ (xs : List Drive). length xs) c.as_slice-drives.ensures)) c.index-drives-place.is) in
+    (read c.as_slice-drives.result.now c.args.place d (omega (arith, c.requires.there, ap (λ (xs : List Drive). length xs) c.as_slice-drives.ensures)) c.index-drives-place.is) in
     let s = c.args.sorting.now in
     let is = c.requires.sorting in
     let origins = c.args.origins.now in
@@ -49,7 +49,7 @@ root_of-requires-clause-drive c =
     let circuit = c.args.circuit.now in
     let d : Drive = c.index-drives-place.result in
     let at : slice_get circuit.drives c.args.place ≡ Some d = subst (λ (xs : List Drive). slice_get xs c.args.place ≡ Some d) c.as_slice-drives.ensures
-        (read c.as_slice-drives.result.now c.args.place d (omega (arith, c.requires.there, ap (λ (xs : List Drive). length xs) c.as_slice-drives.ensures)) c.index-drives-place.is) in
+    (read c.as_slice-drives.result.now c.args.place d (omega (arith, c.requires.there, ap (λ (xs : List Drive). length xs) c.as_slice-drives.ensures)) c.index-drives-place.is) in
     drive_fits_at circuit c.requires.valid c.args.place d at
 
 pub root_of-requires-clause-owner : goal.root_of-requires-clause-owner
@@ -57,7 +57,7 @@ root_of-requires-clause-owner c =
     let circuit = c.args.circuit.now in
     let d : Drive = c.index-drives-place.result in
     let at : slice_get circuit.drives c.args.place ≡ Some d = subst (λ (xs : List Drive). slice_get xs c.args.place ≡ Some d) c.as_slice-drives.ensures
-        (read c.as_slice-drives.result.now c.args.place d (omega (arith, c.requires.there, ap (λ (xs : List Drive). length xs) c.as_slice-drives.ensures)) c.index-drives-place.is) in
+    (read c.as_slice-drives.result.now c.args.place d (omega (arith, c.requires.there, ap (λ (xs : List Drive). length xs) c.as_slice-drives.ensures)) c.index-drives-place.is) in
     let s = c.args.sorting.now in
     let is = c.requires.sorting in
     let origins = c.args.origins.now in
@@ -81,7 +81,7 @@ root_of-requires-clause-inside c =
     let circuit = c.args.circuit.now in
     let d : Drive = c.index-drives-place.result in
     let at : slice_get circuit.drives c.args.place ≡ Some d = subst (λ (xs : List Drive). slice_get xs c.args.place ≡ Some d) c.as_slice-drives.ensures
-        (read c.as_slice-drives.result.now c.args.place d (omega (arith, c.requires.there, ap (λ (xs : List Drive). length xs) c.as_slice-drives.ensures)) c.index-drives-place.is) in
+    (read c.as_slice-drives.result.now c.args.place d (omega (arith, c.requires.there, ap (λ (xs : List Drive). length xs) c.as_slice-drives.ensures)) c.index-drives-place.is) in
     c.requires.inside d at
 
 pub root_of-requires-clause-origin : goal.root_of-requires-clause-origin
@@ -89,7 +89,7 @@ root_of-requires-clause-origin c =
     let circuit = c.args.circuit.now in
     let d : Drive = c.index-drives-place.result in
     let at : slice_get circuit.drives c.args.place ≡ Some d = subst (λ (xs : List Drive). slice_get xs c.args.place ≡ Some d) c.as_slice-drives.ensures
-        (read c.as_slice-drives.result.now c.args.place d (omega (arith, c.requires.there, ap (λ (xs : List Drive). length xs) c.as_slice-drives.ensures)) c.index-drives-place.is) in
+    (read c.as_slice-drives.result.now c.args.place d (omega (arith, c.requires.there, ap (λ (xs : List Drive). length xs) c.as_slice-drives.ensures)) c.index-drives-place.is) in
     let s = c.args.sorting.now in
     let is = c.requires.sorting in
     let origins = c.args.origins.now in
@@ -114,7 +114,7 @@ root_of-requires-clause-owner_inside c =
     let circuit = c.args.circuit.now in
     let d : Drive = c.index-drives-place.result in
     let at : slice_get circuit.drives c.args.place ≡ Some d = subst (λ (xs : List Drive). slice_get xs c.args.place ≡ Some d) c.as_slice-drives.ensures
-        (read c.as_slice-drives.result.now c.args.place d (omega (arith, c.requires.there, ap (λ (xs : List Drive). length xs) c.as_slice-drives.ensures)) c.index-drives-place.is) in
+    (read c.as_slice-drives.result.now c.args.place d (omega (arith, c.requires.there, ap (λ (xs : List Drive). length xs) c.as_slice-drives.ensures)) c.index-drives-place.is) in
     let s = c.args.sorting.now in
     let is = c.requires.sorting in
     let origins = c.args.origins.now in
@@ -139,7 +139,7 @@ returns-else-owner-drives c =
     let circuit = c.args.circuit.now in
     let d : Drive = c.index-drives-place.result in
     let at : slice_get circuit.drives c.args.place ≡ Some d = subst (λ (xs : List Drive). slice_get xs c.args.place ≡ Some d) c.as_slice-drives.ensures
-        (read c.as_slice-drives.result.now c.args.place d (omega (arith, c.requires.there, ap (λ (xs : List Drive). length xs) c.as_slice-drives.ensures)) c.index-drives-place.is) in
+    (read c.as_slice-drives.result.now c.args.place d (omega (arith, c.requires.there, ap (λ (xs : List Drive). length xs) c.as_slice-drives.ensures)) c.index-drives-place.is) in
     let s = c.args.sorting.now in
     let is = c.requires.sorting in
     let origins = c.args.origins.now in
@@ -160,7 +160,7 @@ returns-in_ok-push c =
     let circuit = c.args.circuit.now in
     let d : Drive = c.index-drives-place.result in
     let at : slice_get circuit.drives c.args.place ≡ Some d = subst (λ (xs : List Drive). slice_get xs c.args.place ≡ Some d) c.as_slice-drives.ensures
-        (read c.as_slice-drives.result.now c.args.place d (omega (arith, c.requires.there, ap (λ (xs : List Drive). length xs) c.as_slice-drives.ensures)) c.index-drives-place.is) in
+    (read c.as_slice-drives.result.now c.args.place d (omega (arith, c.requires.there, ap (λ (xs : List Drive). length xs) c.as_slice-drives.ensures)) c.index-drives-place.is) in
     let s = c.args.sorting.now in
     let is = c.requires.sorting in
     let origins = c.args.origins.now in
