@@ -1,5 +1,5 @@
 -- The bits at which wires end.
-use Rattle.std.proofs.Common.{◌≡◌, ◌≢◌, ℕ, zero, suc, ◌+◌, ◌-◌, ◌<◌, ◌≤◌, ◌⊎◌, List, [], ◌∷◌, length, set, get_or, refl, sym, ◌∙◌, ap, subst, arith, inl, inr, true, Option, Some, None, get_or-set_same, get_or-set_other}
+use Rattle.std.proofs.Common.{◌≡◌, ◌≢◌, ℕ, suc, ◌+◌, ◌-◌, ◌<◌, ◌≤◌, ◌⊎◌, List, length, set, get_or, refl, sym, ◌∙◌, ap, subst, arith, inl, inr, true, Option, Some, None, get_or-set_same, get_or-set_other}
 use Rattle.std.specs.Prelude.{slice_get, slice_index}
 use Rattle.std.proofs.lemmas.Bool.{cases_eq}
 use Rattle.circuit.specs.Valid.{is_valid}
@@ -13,13 +13,11 @@ use Rattle.driver_check.specs.Numbers.{bit_count, IsBit, number_of}
 use Rattle.driver_check.specs.Ordered.{Source, source_at, source_by, source_within}
 use Rattle.driver_check.specs.Origins.{AreOrigins, IsOrigin, IsWire}
 use Rattle.driver_check.specs.Sorting.{IsSorting}
-use Rattle.driver_check.specs.Vertices.{bit_span, by_span, drive_span, place_of}
+use Rattle.driver_check.specs.Vertices.{bit_span, by_span, drive_span}
 use Rattle.driver_check.specs.declared.graph.Span.{Span}
-use Rattle.driver_check.specs.declared.plan.Node.TheVariants as node
 use Rattle.driver_check.specs.declared.sorting.Sorting.{Sorting}
-use Rattle.driver_check.proofs.Places.{read, same, within}
+use Rattle.driver_check.proofs.Places.{read, same}
 use Rattle.driver_check.proofs.Numbered.{bit_below}
-use Rattle.driver_check.proofs.Owned.{one_bit}
 use Rattle.driver_check.proofs.Linked.{back}
 use Rattle.driver_check.proofs.Freedom.{earlier}
 

@@ -1,10 +1,8 @@
 -- The nodes of an order of vertices, vertex by vertex.
-use Rattle.std.proofs.Common.{◌≡◌, ◌≢◌, ℕ, zero, suc, ◌+◌, ◌-◌, ◌<◌, ◌≤◌, ◌⊎◌, List, [], ◌∷◌, ◌++◌, length, refl, sym, ◌∙◌, ap, subst, arith, inl, inr, true, false, Option, Some, None}
+use Rattle.std.proofs.Common.{◌≡◌, ℕ, ◌+◌, ◌<◌, List, [], ◌∷◌, ◌++◌, length, subst, arith, inl, inr, Some}
 use Rattle.std.specs.Prelude.{slice_get}
 use Rattle.std.proofs.lemmas.Bool.{cases_eq, cases_lt}
 use Rattle.circuit.specs.declared.netlist.Circuit.{Circuit}
-use Rattle.circuit.specs.declared.memory.Mem.{Mem}
-use Rattle.circuit.specs.declared.memory.ReadPort.{ReadPort}
 use Rattle.driver_check.specs.Nodes.{AreNodesOf, StandsAt}
 use Rattle.driver_check.specs.Numbers.{bit_count}
 use Rattle.driver_check.specs.Ordered.{IsAmong, IsNode}

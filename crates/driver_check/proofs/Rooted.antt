@@ -1,5 +1,5 @@
 -- The roots of a run of bits.
-use Rattle.std.proofs.Common.{◌≡◌, ◌≢◌, ℕ, zero, suc, ◌+◌, ◌-◌, ◌<◌, ◌≤◌, ◌⊎◌, List, [], ◌∷◌, ◌++◌, length, refl, sym, ◌∙◌, ap, subst, arith, inl, inr, true, false, Option, Some, None}
+use Rattle.std.proofs.Common.{◌≡◌, ℕ, ◌+◌, ◌-◌, ◌<◌, ◌≤◌, ◌⊎◌, List, [], ◌∷◌, ◌++◌, length, refl, sym, ◌∙◌, ap, subst, arith, inl, inr, true, Option, Some, None}
 use Rattle.std.specs.Prelude.{slice_get, slice_index}
 use Rattle.std.specs.Int.{bit_at}
 use Rattle.std.proofs.lemmas.Bool.{cases_eq, cases_lt}
@@ -11,7 +11,7 @@ use Rattle.circuit.specs.declared.netlist.Drive.{Drive}
 use Rattle.circuit.specs.declared.netlist.By.{By}
 use Rattle.circuit.specs.declared.netlist.By.TheVariants as by
 use Rattle.driver_check.specs.Depends.{Bit}
-use Rattle.driver_check.specs.Numbers.{IsBit, IsIn, bit_count, number_of, start_of}
+use Rattle.driver_check.specs.Numbers.{IsBit, bit_count, number_of, start_of}
 use Rattle.driver_check.specs.Ordered.{CellBit, Digit, InputBit, ReadBit, RegBit, Source, source_at, source_by, source_within}
 use Rattle.driver_check.specs.Origins.{AreAllOrigins, IsOrigin, IsWire}
 use Rattle.driver_check.specs.Owners.{AreOwners}

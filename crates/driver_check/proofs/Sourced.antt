@@ -1,5 +1,5 @@
 -- Where the bits of a circuit come from, in the order of its search.
-use Rattle.std.proofs.Common.{◌≡◌, ◌≢◌, ℕ, zero, suc, ◌+◌, ◌-◌, ◌<◌, ◌≤◌, ◌⊎◌, List, [], ◌∷◌, ◌++◌, length, refl, sym, ◌∙◌, ap, subst, arith, inl, inr, true, false, Option, Some, None}
+use Rattle.std.proofs.Common.{◌≡◌, ℕ, zero, suc, ◌+◌, ◌-◌, ◌<◌, ◌≤◌, List, [], ◌∷◌, length, refl, sym, ◌∙◌, ap, subst, arith, inl, inr, true, Option, Some, None}
 use Rattle.std.specs.Prelude.{slice_get}
 use Rattle.std.specs.Int.{bit_at}
 use Rattle.circuit.specs.Free.{IsInOrder}
@@ -12,10 +12,10 @@ use Rattle.circuit.specs.declared.netlist.By.TheVariants as by
 use Rattle.driver_check.specs.Depends.{Bit, DependsOn, DriveTakes, TakesBit}
 use Rattle.driver_check.specs.Nodes.{AreNodesOf, StandsAt}
 use Rattle.driver_check.specs.Numbers.{bit_count, IsBit, number_of}
-use Rattle.driver_check.specs.Ordered.{CellBit, Digit, InputBit, IsAmong, IsFinal, IsNode, IsOrdered, IsThere, NodeReads, ReadBit, RegBit, Source, source_at, source_by, source_within}
-use Rattle.driver_check.specs.Search.{Has, Needs, row_of}
+use Rattle.driver_check.specs.Ordered.{CellBit, Digit, InputBit, IsOrdered, IsThere, ReadBit, RegBit, Source, source_at, source_by, source_within}
+use Rattle.driver_check.specs.Search.{Has, Needs}
 use Rattle.driver_check.specs.Sorting.{IsSorting}
-use Rattle.driver_check.specs.Vertices.{IsPart, bit_span, by_span, drive_span, node_spans, place_of, span_of}
+use Rattle.driver_check.specs.Vertices.{IsPart, bit_span, by_span, drive_span, place_of, span_of}
 use Rattle.driver_check.specs.declared.graph.Span.{Span}
 use Rattle.driver_check.specs.declared.plan.Node.{Node}
 use Rattle.driver_check.specs.declared.plan.Node.TheVariants as node

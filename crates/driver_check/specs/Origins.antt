@@ -1,5 +1,5 @@
 -- For each bit the bit at which its chain of wires ends.
-use Rattle.std.specs.Prelude.{◌≡◌, ℕ, ◌<◌, List, Option, Some, None, slice_get, slice_index}
+use Rattle.std.specs.Prelude.{◌≡◌, ℕ, ◌<◌, List, Some, slice_get, slice_index}
 use Rattle.circuit.specs.Valuation.{drive_of}
 use Rattle.circuit.specs.declared.netlist.Circuit.{Circuit}
 use Rattle.circuit.specs.declared.netlist.Drive.{Drive}

@@ -1,5 +1,5 @@
 -- The roots of a circuit: drives with the wires between left out.
-use Rattle.std.specs.Prelude.{◌≡◌, ℕ, ◌+◌, ◌-◌, ◌<◌, ◌≤◌, ◌⊎◌, List, length, true, Option, Some, None, slice_get, slice_index}
+use Rattle.std.specs.Prelude.{◌≡◌, ℕ, ◌+◌, ◌-◌, ◌<◌, ◌⊎◌, List, true, Option, Some, None, slice_get, slice_index}
 use Rattle.circuit.specs.Valid.{drive_fits}
 use Rattle.circuit.specs.Valuation.{covers}
 use Rattle.circuit.specs.declared.netlist.Circuit.{Circuit}

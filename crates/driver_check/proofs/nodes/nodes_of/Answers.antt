@@ -1,4 +1,4 @@
-use Rattle.std.proofs.Common.{◌≡◌, ℕ, ◌<◌, ◌≤◌, length, subst, arith}
+use Rattle.std.proofs.Common.{◌≡◌, ℕ, length, subst, arith}
 use Rattle.driver_check.specs.Nodes.{AreNodesOf}
 use Rattle.driver_check.proofs.nodes.nodes_of.Goals as goal
 

@@ -1,4 +1,4 @@
-use Rattle.std.proofs.Common.{◌≡◌, ℕ, ◌+◌, ◌-◌, ◌<◌, ◌≤◌, List, ◌++◌, ◌∷◌, [], length, sym, ◌∙◌, ap, refl, subst, arith, Some, true, get_or}
+use Rattle.std.proofs.Common.{◌≡◌, ℕ, ◌+◌, ◌-◌, ◌<◌, ◌≤◌, List, length, sym, ◌∙◌, ap, refl, subst, arith, Some, true, get_or}
 use Rattle.std.specs.Prelude.{slice_get}
 use Rattle.circuit.specs.Valid.{is_valid}
 use Rattle.circuit.specs.declared.netlist.Circuit.{Circuit}

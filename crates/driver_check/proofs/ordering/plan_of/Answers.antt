@@ -1,4 +1,4 @@
-use Rattle.std.proofs.Common.{◌≡◌, ℕ, List, length, arith, inl, inr, sym, ap, subst, ◌∙◌}
+use Rattle.std.proofs.Common.{ℕ, List, sym, subst}
 use Rattle.driver_check.specs.Numbers.{number_of}
 use Rattle.driver_check.specs.Origins.{AreAllOrigins}
 use Rattle.driver_check.proofs.Places.{within}

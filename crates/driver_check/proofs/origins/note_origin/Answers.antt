@@ -1,4 +1,4 @@
-use Rattle.std.proofs.Common.{◌≡◌, ℕ, ◌<◌, ◌≤◌, arith}
+use Rattle.std.proofs.Common.{arith}
 use Rattle.driver_check.proofs.Places.{read}
 use Rattle.driver_check.proofs.Ended.{origins_more, origins_same}
 use Rattle.driver_check.proofs.origins.note_origin.Goals as goal

@@ -1,4 +1,4 @@
-use Rattle.std.proofs.Common.{◌≡◌, ℕ, ◌<◌, ◌≤◌, sym, ap, subst, arith, inr, Some}
+use Rattle.std.proofs.Common.{◌≡◌, ℕ, sym, ap, subst, arith, inr, Some}
 use Rattle.std.specs.Prelude.{slice_get}
 use Rattle.driver_check.specs.Origins.{IsOrigin}
 use Rattle.driver_check.specs.declared.graph.Span.{Span}

@@ -1,4 +1,4 @@
-use Rattle.std.proofs.Common.{ℕ, ◌-◌, ◌≤◌}
+use Rattle.std.proofs.Common.{◌-◌, ◌≤◌}
 use Rattle.driver_check.specs.Roots.{AreRootsOf}
 use Rattle.driver_check.proofs.roots.push_drive.Given as goal
 

@@ -1,8 +1,6 @@
-use Rattle.std.proofs.Common.{◌≡◌, ℕ, ◌+◌, ◌<◌, ◌≤◌, List, sym, ◌∙◌, ap, subst, arith, true}
-use Rattle.std.specs.Prelude.{slice_get}
+use Rattle.std.proofs.Common.{List, sym, ◌∙◌, ap, subst, arith}
 use Rattle.circuit.specs.declared.netlist.Net.{Net}
 use Rattle.driver_check.specs.Numbers.{IsInsideNet, start_of}
-use Rattle.driver_check.specs.Roots.{root_source}
 use Rattle.driver_check.proofs.Fitting.{fits_inside, net_width}
 use Rattle.driver_check.proofs.roots.root_of.Goals as goal
 

@@ -1,6 +1,5 @@
-use Rattle.std.proofs.Common.{◌≡◌, ℕ, ◌≤◌, length, subst, sym, arith}
-use Rattle.driver_check.specs.Roots.{AreRootsOf}
-use Rattle.driver_check.proofs.Rooted.{all_roots, no_roots}
+use Rattle.std.proofs.Common.{arith}
+use Rattle.driver_check.proofs.Rooted.{all_roots}
 use Rattle.driver_check.proofs.roots.roots_of.Goals as goal
 
 pub returns : goal.returns

@@ -1,7 +1,6 @@
-use Rattle.std.proofs.Common.{◌≡◌, ℕ, ◌+◌, ◌<◌, ◌≤◌, true, sym, ap, ◌∙◌, arith}
+use Rattle.std.proofs.Common.{◌+◌, ◌≤◌, ap, ◌∙◌, arith}
 use Rattle.std.proofs.lemmas.Bool.{eq-eqb}
 use Rattle.circuit.specs.Valid.{driver_fits}
-use Rattle.circuit.specs.declared.netlist.By.{By}
 use Rattle.circuit.specs.declared.netlist.By.TheVariants as by
 use Rattle.driver_check.proofs.Fitting.{drive_ends, moved_fits}
 use Rattle.driver_check.proofs.roots.shifted.Goals.{in-Const+in_ok-part_of-in-Const, in-Input, in-Wire, in-Cell, in-Reg, in-Read}

@@ -1,8 +1,7 @@
-use Rattle.std.proofs.Common.{◌≡◌, ℕ, ◌<◌, ◌≤◌, List, length, get_or, sym, ◌∙◌, ap, subst, arith, Some}
-use Rattle.std.specs.Prelude.{slice_get}
+use Rattle.std.proofs.Common.{◌≡◌, ℕ, ◌≤◌, List, length, sym, ◌∙◌, ap, subst, arith}
 use Rattle.circuit.specs.declared.netlist.Circuit.{Circuit}
 use Rattle.driver_check.specs.Depends.{Bit}
-use Rattle.driver_check.specs.Numbers.{IsBit, bit_count, number_of}
+use Rattle.driver_check.specs.Numbers.{bit_count}
 use Rattle.driver_check.specs.Search.{Has, Needs, row_of}
 use Rattle.driver_check.specs.Sorting.{IsSorting}
 use Rattle.driver_check.specs.Vertices.{bit_span}
@@ -11,7 +10,7 @@ use Rattle.driver_check.specs.declared.graph.Span.{Span}
 use Rattle.driver_check.specs.declared.search.Mark.{Mark}
 use Rattle.driver_check.specs.declared.search.Mark.TheVariants as mark
 use Rattle.driver_check.specs.declared.sorting.Sorting.{Sorting}
-use Rattle.driver_check.proofs.Places.{read, same, within}
+use Rattle.driver_check.proofs.Places.{within}
 use Rattle.driver_check.proofs.Numbered.{bit_at_number}
 use Rattle.driver_check.proofs.Ended.{span_is}
 use Rattle.driver_check.proofs.Freedom.{graph_inside}
