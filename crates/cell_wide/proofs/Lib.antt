@@ -7,3 +7,4 @@ pub mod Outputs
 pub mod Truths
 pub mod Selections
 pub mod Tested
+pub mod Narrow

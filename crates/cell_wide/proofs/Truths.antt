@@ -39,7 +39,7 @@ ones_count (suc w) n =
 difference_same : (a b c d : ℕ) → a + d ≡ c + b → pos a -ℤ pos b ≡ pos c -ℤ pos d
 difference_same a b c d e = omega (arith, ints)
 
-one_more : (m w v : ℕ) → w ≤ m → (2 ^ (m - w) - 1) * 2 ^ w + v + 2 ^ w ≡ v + 2 ^ m
+pub one_more : (m w v : ℕ) → w ≤ m → (2 ^ (m - w) - 1) * 2 ^ w + v + 2 ^ w ≡ v + 2 ^ m
 one_more m w v le =
     let e : m ≡ m - w + w = omega arith in
     parts (2 ^ (m - w)) (2 ^ w) (pow_pos (m - w)) ∙ ap (λ x. v + x) (sym (ap (λ k. 2 ^ k) e ∙ pow-add 2 (m - w) w))

@@ -9,6 +9,7 @@ mod select;
 #[cfg(test)]
 mod tests;
 mod truth;
+mod word;
 mod words;
 mod write;
 

@@ -9,6 +9,7 @@ ghost use Rattle.cell_wide.specs.Words.{IsWritten};
 use crate::bitwise::operands;
 use crate::count::is_odd;
 use crate::operand::is_zero;
+use crate::word::{is_signed, operand_word};
 use crate::words::{Bitwise, Chain, Fill, Pair, ones as all_ones};
 use crate::write::{same, write};
 use circuit::{Cell, Op, Piece};
@@ -70,7 +71,13 @@ fn are_equal(cell: &Cell, nets: &[Bits]) -> bool
     requires b { IsSignalOf nets.now cell.now.b }
     ensures { result ≡ is_equal (inputs_of (digits_in nets.now) cell.now) }
 {
-    let width = sig_width(cell.a.as_slice()).max(sig_width(cell.b.as_slice()));
+    let a = cell.a.as_slice();
+    let b = cell.b.as_slice();
+    let width = sig_width(a).max(sig_width(b));
+    if width <= 64 {
+        let signed = is_signed(cell);
+        return operand_word(a, nets, signed, width) == operand_word(b, nets, signed, width);
+    }
     let Pair {
         mut one,
         mut other,

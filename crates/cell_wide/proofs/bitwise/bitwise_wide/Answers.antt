@@ -4,7 +4,7 @@ use Rattle.circuit.specs.declared.cell.Op.TheVariants as op
 use Rattle.signal_words.specs.Values.{digits_in}
 use Rattle.cell_wide.specs.declared.words.Bitwise.TheVariants as by
 use Rattle.cell_wide.proofs.Outputs.{same_written, pair_output, xnor_output, xnor_is}
-use Rattle.cell_wide.proofs.bitwise.bitwise.Goals as goal
+use Rattle.cell_wide.proofs.bitwise.bitwise_wide.Goals as goal
 
 pub returns-in-And : goal.returns-in-And
 returns-in-And c =

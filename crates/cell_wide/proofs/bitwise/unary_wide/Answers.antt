@@ -3,7 +3,7 @@ use Rattle.circuit.specs.Output.{modulo, operand, output}
 use Rattle.circuit.specs.Signal.{sig_number, sig_width}
 use Rattle.signal_words.specs.Values.{digits_in}
 use Rattle.cell_wide.proofs.Outputs.{same_written, not_output}
-use Rattle.cell_wide.proofs.bitwise.unary.Goals as goal
+use Rattle.cell_wide.proofs.bitwise.unary_wide.Goals as goal
 
 pub returns-in-Not : goal.returns-in-Not
 returns-in-Not c =
