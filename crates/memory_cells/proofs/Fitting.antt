@@ -70,6 +70,12 @@ memory_in c before now m b w e =
       writes = all_from (write_fits c m abits) (IsWritePortOf before.nets now.nets m) (λ p. write_in c before now m abits p b w) m.writes x.1;
     }
 
+pub init_in : (c : Circuit) (m : Mem) → mem_fits c m ≡ true → m.init.width ≡ m.size * m.width
+init_in c m e =
+    let t = and_parts (nat_le m.width widest) _ e in
+    let u = and_parts (m.init.width == m.size * m.width) _ t.1 in
+    eq_from m.init.width (m.size * m.width) u.0
+
 -- what lists that are mapped to the same have at a place
 pub same_there : {X Y Z : Type 0} (f : X → Z) (g : Y → Z) (xs : List X) (ys : List Y) (n : ℕ) (x : X) (y : Y) → map f xs ≡ map g ys → slice_get xs n ≡ Some x → slice_get ys n ≡ Some y → f x ≡ g y
 same_there f g [] ys n x y e a b = cc a

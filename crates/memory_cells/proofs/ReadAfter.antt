@@ -83,14 +83,14 @@ pub record OutsMore (before now : Digits) (m : Mem) (rows : List ℕ) (ports : L
 pub outs_long : (ports : List ReadPort) (olds outs : List BitValue) (w : ℕ) → widths olds ≡ map (λ _. w) ports → widths outs ≡ widths olds → length outs ≡ length ports
 outs_long ports olds outs w e f = sym (length-map outs (λ (v : BitValue). v.width)) ∙ ap length (f ∙ e) ∙ length-map ports (λ _. w)
 
+pub same_width_at : (ports : List ReadPort) (w k : ℕ) → k < length ports → get_or (map (λ _. w) ports) k 0 ≡ w
+same_width_at [] w k lt = absurd (omega arith)
+same_width_at (p ∷ ports) w zero lt = refl
+same_width_at (p ∷ ports) w (suc k) lt = same_width_at ports w k (omega arith)
+
 pub out_wide : (ports : List ReadPort) (olds outs : List BitValue) (w i : ℕ) (o : BitValue) → widths olds ≡ map (λ _. w) ports → widths outs ≡ widths olds → i < length ports → (get_or outs i o).width ≡ w
 out_wide ports olds outs w i o e f lt =
-    sym (get_or-map (λ (v : BitValue). v.width) outs i o 0 (omega (arith, outs_long ports olds outs w e f))) ∙ ap (λ (xs : List ℕ). get_or xs i 0) (f ∙ e) ∙ of ports i lt
-  where
-    of : (xs : List ReadPort) (k : ℕ) → k < length xs → get_or (map (λ _. w) xs) k 0 ≡ w
-    of [] k in' = absurd (omega arith)
-    of (x ∷ xs) zero in' = refl
-    of (x ∷ xs) (suc k) in' = of xs k (omega arith)
+    sym (get_or-map (λ (v : BitValue). v.width) outs i o 0 (omega (arith, outs_long ports olds outs w e f))) ∙ ap (λ (xs : List ℕ). get_or xs i 0) (f ∙ e) ∙ same_width_at ports w i lt
 
 pub outs_more : (before now : Digits) (m : Mem) (rows : List ℕ) (ports : List ReadPort) (olds outs : List BitValue) (w i : ℕ) (p : ReadPort) (o new : BitValue) (changed part : Bool)
     → widths olds ≡ map (λ _. w) ports → i < length ports → p ≡ get_or ports i p

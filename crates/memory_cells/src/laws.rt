@@ -1,5 +1,5 @@
 //! Laws of memories.
-ghost use Rattle.std.specs.Prelude.{◌≡◌, ℕ, List, true, Some, map, slice_get};
+ghost use Rattle.std.specs.Prelude.{◌≡◌, ◌*◌, ℕ, List, true, Some, map, slice_get};
 ghost use Rattle.sim_base.specs.BitValue.{BitValue};
 ghost use Rattle.circuit.specs.Valid.{is_valid};
 ghost use Rattle.circuit.specs.declared.memory.Mem.{Mem};
@@ -17,6 +17,7 @@ use signal_words::law_of_stores;
 pub fn law_of_memories()
     ensures memory { (c : Circuit) (before now : Store) (n : ℕ) (m : Mem) → is_valid c ≡ true → IsStoreOf c before → IsStoreOf c now → slice_get c.mems n ≡ Some m → IsMemoryOf before.nets now.nets m }
     ensures outs { (c : Circuit) (store : Store) (n : ℕ) (m : Mem) (outs : List BitValue) → IsStoreOf c store → slice_get c.mems n ≡ Some m → slice_get store.reads n ≡ Some outs → widths outs ≡ map (λ _. m.width) m.reads }
+    ensures init { (c : Circuit) (n : ℕ) (m : Mem) → is_valid c ≡ true → slice_get c.mems n ≡ Some m → m.init.width ≡ m.size * m.width }
     ensures start { (m : Mem) → AreRowsOf m (start_rows m) }
 {
     law_of_stores();

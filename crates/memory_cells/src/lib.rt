@@ -7,6 +7,8 @@ mod laws;
 mod read;
 mod renew;
 mod rows;
+#[cfg(test)]
+mod tests;
 mod write;
 
 pub use clock::{clock_ports, read_port};

@@ -5,4 +5,4 @@ pub mod Overlaid
 mod Chosen
 mod Edges
 pub mod Fitting
-mod StoresWritten
+pub mod StoresWritten

@@ -1,6 +1,6 @@
 use Rattle.std.proofs.Common.{refl}
 use Rattle.memory_cells.proofs.Parts.{length-parts}
-use Rattle.memory_cells.proofs.Fitting.{memory_in, same_there}
+use Rattle.memory_cells.proofs.Fitting.{init_in, memory_in, same_there}
 use Rattle.memory_cells.proofs.laws.law_of_memories.Goals as goal
 
 pub returns-clause-memory : goal.returns-clause-memory
@@ -12,3 +12,6 @@ returns-clause-outs c = λ k store n m outs of at there. same_there _ _ store.re
 
 pub returns-clause-start : goal.returns-clause-start
 returns-clause-start c = λ m. record { width = refl; size = length-parts m.width m.size m.init.number }
+
+pub returns-clause-init : goal.returns-clause-init
+returns-clause-init c = λ k n m valid at. init_in k m (c.law_of_stores.ensures.memory k n m valid at)
