@@ -27,13 +27,13 @@ place-cons y history last before e (inside rest same) = inside rest (ap (λ z. y
 cons-nil : (y : Entry) (ys : List Entry) → y ∷ ys ≡ [] → ⊥
 cons-nil y ys h = cc
 
-no_more : (before : List Entry) (e : Entry) (more : List Entry) → [] ≡ before ++ e ∷ more → ⊥
-no_more [] e more h = cons-nil e more (sym h)
-no_more (b ∷ before) e more h = cons-nil b (before ++ e ∷ more) (sym h)
+pub no_packet_there : (before : List Entry) (e : Entry) (more : List Entry) → [] ≡ before ++ e ∷ more → ⊥
+no_packet_there [] e more h = cons-nil e more (sym h)
+no_packet_there (b ∷ before) e more h = cons-nil b (before ++ e ∷ more) (sym h)
 
 place : (history : List Entry) (last : Entry) (before : List Entry) (e : Entry) (more : List Entry) → history ++ last ∷ [] ≡ before ++ e ∷ more → IsPlace history last before e
 place [] last [] e more h = at_end refl cc
-place [] last (b ∷ before) e more h = absurd (no_more before e more cc)
+place [] last (b ∷ before) e more h = absurd (no_packet_there before e more cc)
 place (y ∷ ys) last [] e more h = inside ys cc
 place (y ∷ ys) last (b ∷ before) e more h =
     let head : y ≡ b = cc in

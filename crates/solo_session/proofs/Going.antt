@@ -139,7 +139,7 @@ module _ (packets : List (List ℕ)) (s : Served) (bytes p : List ℕ) (has : Ha
 
 pub has_said_packet : (packets : List (List ℕ)) (s : Served) (bytes p : List ℕ) → HasSaid packets s bytes
     → HasSaid (packets ++ p ∷ []) (record s { history = s.history ++ packet_entry s (asked p) ∷ []; greeted = s.greeted || greets (asked p) })
-      (bytes ++ (packet_text (answer_in (run_of s.run) s.greeted (moment_of (after (replay s.history) (packet_entry s (asked p)))) (asked p)) ++ event (run_of s.run) (s.greeted || greets (asked p)) (replay s.history) (packet_entry s (asked p))))
+    (bytes ++ (packet_text (answer_in (run_of s.run) s.greeted (moment_of (after (replay s.history) (packet_entry s (asked p)))) (asked p)) ++ event (run_of s.run) (s.greeted || greets (asked p)) (replay s.history) (packet_entry s (asked p))))
 unfolding text_of
 has_said_packet packets s bytes p has = record {
   serving = serving_packet packets s bytes p has;
@@ -168,7 +168,7 @@ has_served_packet packets s next bytes p now served has same is = record {
 
 -- ---- the start
 
-opened_agrees : (run : Run) → Agrees run [] 0 opening
+pub opened_agrees : (run : Run) → Agrees run [] 0 opening
 opened_agrees run = record {
   taken = omega arith;
   acts = λ before more what packet same is. absurd (nothing packet is);
@@ -181,7 +181,7 @@ opened_said : (run : Run) → [] ≡ said run [] 0 opening
 unfolding said_behind
 opened_said run = refl
 
-opened_taken : (facts : RunFacts) → 1 ≤ facts.length → Taken facts opening
+pub opened_taken : (facts : RunFacts) → 1 ≤ facts.length → Taken facts opening
 opened_taken facts some = one_more (one_more none (entry.Record 1 false) (record { allows = refl; meets = (some, tt {0}) })) (entry.Open 0) (record { allows = refl; meets = tt {0} })
 
 pub opened : (run : Sampled) → 1 ≤ run_length (run_of run) → HasServed [] (record { run = run; history = opening; greeted = false }) []

@@ -7,3 +7,5 @@ mod Packeted
 mod Taking
 mod Going
 mod Rounds
+mod Paced
+mod Ending

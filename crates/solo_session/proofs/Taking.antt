@@ -35,7 +35,7 @@ pub all_recording_stop : (facts : RunFacts) (s : State) → list_all is_recordin
 all_recording_stop facts s = all_recording_if (may_stop facts s)
 
 -- the greatest number that passes, where it is not 0, passes
-greatest_passes : (test : ℕ → Bool) (n m : ℕ) → greatest test n ≡ suc m → test (suc m) ≡ true
+pub greatest_passes : (test : ℕ → Bool) (n m : ℕ) → greatest test n ≡ suc m → test (suc m) ≡ true
 unfolding greatest
 greatest_passes test zero m is = cc
 greatest_passes test (suc n) m is = elim (cases_Bool (test (suc n))) [
@@ -43,7 +43,7 @@ greatest_passes test (suc n) m is = elim (cases_Bool (test (suc n))) [
   | inr off ↦ greatest_passes test n m (sym (cond-false (test (suc n)) (suc n) (greatest test n) off) ∙ is)
 ]
 
-le_of : (a b : ℕ) → nat_le a b ≡ true → a ≤ b
+pub le_of : (a b : ℕ) → nat_le a b ≡ true → a ≤ b
 le_of a b h = grind (arith, nat_tests)
 
 -- where none of some samples hits, each of them does not
@@ -59,9 +59,10 @@ none_of_them facts g n (suc m) k none low high =
 
 hits_as_said : (facts : RunFacts) (n m : ℕ) (g : Goal) → some_hits facts g n m ≡ false → HitsAsSaid facts n (suc m) (hits_goal facts g (n + suc m - 1)) g
 hits_as_said facts n m goal.Hold none = tt {0}
-hits_as_said facts n m (goal.To g kinds) none =
-    ((λ k low high. none_of_them facts (goal.To g kinds) n m k none low (omega (arith, high))),
-    (λ k is. (let same : k ≡ n + suc m - 1 = omega (arith, is) in ap (λ z. facts.hits z kinds) same)))
+hits_as_said facts n m (goal.To g kinds) none = (
+  (λ k low high. none_of_them facts (goal.To g kinds) n m k none low (omega (arith, high))),
+  (λ k is. (let same : k ≡ n + suc m - 1 = omega (arith, is) in ap (λ z. facts.hits z kinds) same)),
+)
 hits_as_said facts n m goal.Over none = tt {0}
 
 record_meets : (facts : RunFacts) (s : State) (m : ℕ) → (nat_le (s.n + suc m) facts.length && not (some_hits facts s.goal s.n (suc m - 1))) ≡ true → Meets facts s (record_of facts s (suc m))

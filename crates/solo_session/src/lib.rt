@@ -3,8 +3,10 @@
 #![tactic(auto)]
 
 mod asked;
+mod laws;
 mod session;
 #[cfg(test)]
 mod tests;
 
+pub use laws::{law_of_entries, law_of_isolation, law_of_pace};
 pub use session::Session;
