@@ -33,11 +33,7 @@ impl Model for FlatRun {
 
 impl FlatRun {
     /// The run of this circuit under these samples.
-    pub fn new(
-        alloc: Global,
-        circuit: Circuit,
-        stimulus: FlatStimulus,
-    ) -> Result<FlatRun, NoMemory>
+    pub fn new(alloc: Global, circuit: Circuit, stimulus: FlatStimulus) -> Result<FlatRun, NoMemory>
         requires flat { IsFlat circuit }
         requires samples { AreSamples circuit stimulus }
         ensures { IfOk result (λ run. run ≡ record { circuit = circuit; block = stimulus }) }
