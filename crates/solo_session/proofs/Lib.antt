@@ -9,3 +9,6 @@ mod Going
 mod Rounds
 mod Paced
 mod Ending
+mod Extending
+mod Endings
+mod Reading

@@ -3,3 +3,5 @@ pub mod Reply
 pub mod Said
 pub mod Pace
 pub mod Session
+pub mod Solo
+pub mod Reading

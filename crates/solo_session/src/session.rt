@@ -408,6 +408,7 @@ impl Session {
     pub fn run_out(&mut self, alloc: Global, text: &mut Vec<u8>) -> Result<(), NoMemory>
         requires serving { IsServing (run_of self.old.run) (replay self.old.history) }
         ensures session { OnOk result (self.new ≡ record self.old { history = paces.batches (facts_of (run_of self.old.run)) (run_of self.old.run).count self.old.history }) }
+        ensures serving { OnOk result (IsServing (run_of self.new.run) (replay self.new.history)) }
         ensures served { OnOk result ((packets : List (List ℕ)) (sent : List ℕ) → HasSaid packets self.old (sent ++ text.old.items) → HasSaid packets self.new (sent ++ text.new.items)) }
     {
         for _batch in 0..self.run.count() {

@@ -1,0 +1,367 @@
+-- What holds of a session as its client's bytes are read goes on to hold, and says how the session ends.
+use Rattle.std.proofs.Common.{◌≡◌, ℕ, zero, suc, ◌+◌, ◌-◌, ◌<◌, ◌≤◌, Bool, true, false, List, [], ◌∷◌, ◌++◌, length, map, take, refl, sym, ap, subst, arith, ◌∙◌, append-nil, Option, Some, None, inl, inr, length-append}
+use Rattle.std.specs.Prelude.{nat_lt, slice_get, if◌then◌else◌}
+use Rattle.std.proofs.lemmas.Bool.{cond-true, cond-false}
+use Rattle.std.specs.Io.KnownBytes.{IsAtEnd, append_known, prepend_known}
+use Rattle.std.proofs.Math.Seq.{take-append-add, take-append_seam}
+use Rattle.std.proofs.lemmas.List.{append_assoc, length-take-le}
+use Rattle.std.proofs.lemmas.Bool.Decides.{nat_tests}
+use Rattle.circuit.specs.Run.{Run, run_length}
+use Rattle.flat_run.specs.Run.{Sampled, run_of}
+use Rattle.frame_zero.specs.Packets.{Begins, Packet, packets, packets_from, parts_of, too_long, whole}
+use Rattle.frame_zero.proofs.PacketLaws.{packets-append}
+use Rattle.hall_core.specs.Facts.{facts_of}
+use Rattle.hall_core.specs.Replay.{replay}
+use Rattle.hall_core.specs.declared.entry.Entry.{Entry}
+use Rattle.hall_core.specs.declared.entry.Entry.TheVariants as entry
+use Rattle.hall_core.specs.declared.entry.Why.{Why}
+use Rattle.hall_core.specs.declared.entry.Why.TheVariants as why
+use Rattle.outside.specs.Sink.{TookPart}
+use Rattle.solo_session.specs.Pace.{batches, closing, has_too_long, input_limit, opening, packets_of, solo_history, wholes, with_packets}
+use Rattle.solo_session.specs.Reading.{HasRead, IsReading, IsTurn}
+use Rattle.solo_session.specs.Said.{last_words}
+use Rattle.solo_session.specs.Session.{HasSaid, HasServed, IsServedOf, IsServedSoFar, IsServing, Served}
+use Rattle.solo_session.specs.Solo.{IsBroken, IsEnded, IsInput, IsReadOn, IsSentInPart, IsWhole, Start, ending_of, is_too_long}
+use Rattle.solo_session.specs.declared.solo.Ending.{Ending}
+use Rattle.solo_session.specs.declared.solo.Ending.TheVariants as ending
+use Rattle.solo_session.proofs.Endings.{bytes_left, cut_off, is_input, sent_all, sent_more, sent_part, whole as whole_of, whole_in_part}
+use Rattle.solo_session.proofs.Extending.{Extends, closing_ended, closing_limit, closing_long, ending_ended, ending_limit, ending_long, extends-closing, extends-more_packets, extends-trans, solo_is}
+use Rattle.solo_session.proofs.Packeted.{has_too_long_done, wholes_done}
+use Rattle.solo_session.proofs.Rounds.{ends_too_long}
+
+-- ---- the start, and a piece more
+
+no_bytes : (left : Option (List ℕ)) → left ≡ prepend_known [] left
+no_bytes None = refl
+no_bytes (Some bytes) = refl
+
+nothing_told : (held : Option (List ℕ)) → held ≡ append_known held []
+nothing_told None = refl
+nothing_told (Some bytes) = ap Some (sym (append-nil bytes))
+
+pub reads_first : (s : Served) (left held : Option (List ℕ)) → HasServed [] s [] → IsReading (record { run = s.run; left = left; held = held }) left held s [] 0
+unfolding parts_of packets_from
+reads_first s left held served = ([], record {
+  run = refl;
+  given = [];
+  count = refl;
+  within = omega arith;
+  read = no_bytes left;
+  done = [];
+  parts = λ more. refl;
+  served = served;
+}, nothing_told held, refl)
+
+prepend_two : (one other : List ℕ) (left : Option (List ℕ)) → prepend_known one (prepend_known other left) ≡ prepend_known (one ++ other) left
+prepend_two one other None = refl
+prepend_two one other (Some bytes) = ap Some (sym (append_assoc one other bytes))
+
+map_append : (one other : List (List ℕ)) (more : List Packet) → map whole one ++ (map whole other ++ more) ≡ map whole (one ++ other) ++ more
+map_append [] other more = refl
+map_append (p ∷ one) other more = ap (λ z. whole p ∷ z) (map_append one other more)
+
+pub reads_more : (start : Start) (left : Option (List ℕ)) (s now : Served) (rest piece more : List ℕ) (taken : ℕ) (told text : List ℕ) → HasRead start (prepend_known piece left) s rest taken told → taken + length piece ≤ input_limit
+    → IsServedSoFar (rest ++ piece) more s now [] text → HasRead start left now more (taken + length piece) (told ++ text)
+reads_more start left s now rest piece more taken told text read within so_far = record {
+  run = so_far.run ∙ read.run;
+  given = read.given ++ piece;
+  count = length-append read.given piece ∙ ap (λ z. z + length piece) read.count;
+  within = within;
+  read = read.read ∙ prepend_two read.given piece left;
+  done = read.done ++ so_far.done;
+  parts = λ later.
+      ap packets (append_assoc read.given piece later)
+      ∙ read.parts (piece ++ later)
+      ∙ ap (λ z. map whole read.done ++ packets z) (sym (append_assoc rest piece later))
+      ∙ ap (λ z. map whole read.done ++ z) (so_far.parts later)
+      ∙ map_append read.done so_far.done (packets (more ++ later));
+  served = so_far.served read.done told (subst (λ z. HasServed read.done s z) (sym (append-nil told)) read.served);
+}
+
+pub reading_serves : (start : Start) (left held : Option (List ℕ)) (s : Served) (rest : List ℕ) (taken : ℕ) → IsReading start left held s rest taken → IsServing (run_of s.run) (replay s.history)
+reading_serves start left held s rest taken (told, read, sent, none) = read.served.has_said.serving
+
+-- the first n bytes of a buffer that was written back whole
+front_of : (n len : ℕ) (buffer now more : List ℕ) → now ≡ take len (buffer ++ more) → length buffer ≡ len → take n now ≡ take n buffer
+front_of n len buffer now more is long = ap (λ z. take n z) (is ∙ ap (λ z. take z (buffer ++ more)) (sym long) ∙ take-append_seam buffer more)
+
+pub front_count : (n len : ℕ) (buffer now more : List ℕ) → now ≡ take len (buffer ++ more) → length buffer ≡ len → n ≤ length buffer → length (take n now) ≡ n
+front_count n len buffer now more is long within = ap length (front_of n len buffer now more is long) ∙ length-take-le n buffer within
+
+pub front_some : (n : ℕ) (buffer : List ℕ) → 0 < n → n ≤ length buffer → 0 < length (take n buffer)
+front_some n buffer some within = (let e : length (take n buffer) ≡ n = length-take-le n buffer within in omega (arith, e, some))
+
+-- a piece was read, and stands at the front of the buffer
+pub reads_piece : (start : Start) (before left held : Option (List ℕ)) (s : Served) (rest : List ℕ) (taken n len : ℕ) (buffer now more : List ℕ) → IsReading start before held s rest taken → before ≡ prepend_known (take n buffer) left
+    → now ≡ take len (buffer ++ more) → length buffer ≡ len → IsReading start (prepend_known (take n now) left) held s rest taken
+reads_piece start before left held s rest taken n len buffer now more reading gave is long =
+    subst (λ z. IsReading start z held s rest taken) (gave ∙ ap (λ z. prepend_known z left) (sym (front_of n len buffer now more is long))) reading
+
+-- a turn: the packets that end in a piece were served
+pub turned : (start : Start) (left : Option (List ℕ)) (s now : Served) (rest fed piece more : List ℕ) (taken : ℕ) (told before text : List ℕ) (ends : Bool) → HasRead start (prepend_known piece left) s rest taken told → taken + length piece ≤ input_limit
+    → fed ≡ rest ++ piece → before ≡ [] → IsServedOf fed more ends s now before text → HasRead start left now more (taken + length piece) (told ++ text)
+turned start left s now rest fed piece more taken told before text ends read within fed_is none served =
+    reads_more start left s now rest piece more taken told text read within (subst (λ z. IsServedSoFar z more s now [] text) fed_is (subst (λ z. IsServedSoFar fed more s now z text) none served.so_far))
+
+pub left_long : (rest : List ℕ) (ends : Bool) → packets rest ≡ (if ends then too_long ∷ [] else []) → ends ≡ true → packets rest ≡ too_long ∷ []
+left_long rest ends is long = is ∙ cond-true ends (too_long ∷ []) [] long
+
+pub left_none : (rest : List ℕ) (ends : Bool) → packets rest ≡ (if ends then too_long ∷ [] else []) → ends ≡ false → packets rest ≡ []
+left_none rest ends is short = is ∙ cond-false ends (too_long ∷ []) [] short
+
+-- ---- the bytes of the input
+
+-- these are the bytes of the input: those that were read, and more
+module _ (start : Start) (left : Option (List ℕ)) (s : Served) (rest : List ℕ) (taken : ℕ) (told : List ℕ) (read : HasRead start left s rest taken told) (more : List ℕ) where
+  all : List ℕ
+  all = read.given ++ more
+
+  -- those behind what was read, as far as bytes are read
+  later : List ℕ
+  later = take (input_limit - taken) more
+
+  front : take input_limit all ≡ read.given ++ later
+  unfolding all later
+  front =
+      ap (λ z. take z (read.given ++ more)) (let e : length read.given ≡ taken = read.count in let l : taken ≤ input_limit = read.within in let r : input_limit ≡ length read.given + (input_limit - taken) = omega (arith, e, l) in r)
+      ∙ take-append-add read.given more (input_limit - taken)
+
+  packets_are : packets (take input_limit all) ≡ map whole read.done ++ packets (rest ++ later)
+  packets_are = ap packets front ∙ read.parts later
+
+  packets_all : packets_of all ≡ read.done ++ wholes (packets (rest ++ later))
+  packets_all = ap wholes packets_are ∙ wholes_done read.done (packets (rest ++ later))
+
+  too_long_there : is_too_long all ≡ has_too_long (packets (rest ++ later))
+  too_long_there = ap has_too_long packets_are ∙ has_too_long_done read.done (packets (rest ++ later))
+
+  some_settle : 1 ≤ run_length (run_of s.run)
+  some_settle = (let a : 1 ≤ (replay s.history).n = read.served.has_said.serving.some in let b : (replay s.history).n ≤ run_length (run_of s.run) = read.served.has_said.serving.settled in omega (arith, a, b))
+
+  -- the history so far begins that of all packets
+  begins_packets : Extends s.history (with_packets (run_of s.run) [] opening (packets_of all))
+  begins_packets =
+      subst (λ z. Extends z (with_packets (run_of s.run) [] opening (packets_of all))) (sym read.served.paced)
+      (subst (λ z. Extends (with_packets (run_of s.run) [] opening read.done) (with_packets (run_of s.run) [] opening z)) (sym packets_all)
+      (extends-more_packets (run_of s.run) read.done (wholes (packets (rest ++ later)))))
+
+  begins_solo : Extends s.history (solo_history (run_of s.run) all)
+  begins_solo =
+      subst (λ z. Extends s.history z) (sym (solo_is (run_of s.run) all some_settle))
+      (extends-trans s.history (with_packets (run_of s.run) [] opening (packets_of all)) (closing (run_of s.run) all (with_packets (run_of s.run) [] opening (packets_of all)))
+      begins_packets (extends-closing (run_of s.run) all (with_packets (run_of s.run) [] opening (packets_of all))))
+
+  -- where no other packets come, the history is that of all packets
+  solo_here : wholes (packets (rest ++ later)) ≡ [] → solo_history (run_of s.run) all ≡ closing (run_of s.run) all s.history
+  solo_here none =
+      solo_is (run_of s.run) all some_settle
+      ∙ ap (λ z. closing (run_of s.run) all (with_packets (run_of s.run) [] opening z)) (packets_all ∙ ap (λ z. read.done ++ z) none ∙ append-nil read.done)
+      ∙ ap (λ z. closing (run_of s.run) all z) (sym read.served.paced)
+
+-- the same start of the run of a session
+abbrev started : Start → Sampled → Start
+started start run = record { run = run; left = start.left; held = start.held }
+
+-- a fault breaks the session off
+pub broken : (start : Start) (left held : Option (List ℕ)) (s : Served) (rest : List ℕ) (taken : ℕ) (told : List ℕ) → HasRead start left s rest taken told → IsSentInPart start.held held told
+    → IsBroken start held (s.history ++ entry.Close 0 why.Fault ∷ entry.End ∷ [])
+unfolding all
+broken start left held s rest taken told read sent =
+    let begins = begins_solo start left s rest taken told read (bytes_left left) in
+    subst (λ (r : Sampled). IsBroken (started start r) held (s.history ++ entry.Close 0 why.Fault ∷ entry.End ∷ [])) read.run
+    (cut_off s (all start left s rest taken told read (bytes_left left)) read.done (wholes (packets (rest ++ later start left s rest taken told read (bytes_left left)))) told begins.0 start.left start.held held read.served.has_said
+    (packets_all start left s rest taken told read (bytes_left left)) (is_input start.left left read.given read.read) begins.1 sent)
+
+pub reading_breaks : (start : Start) (left held : Option (List ℕ)) (s : Served) (rest : List ℕ) (taken : ℕ) → IsReading start left held s rest taken → IsBroken start held (s.history ++ entry.Close 0 why.Fault ∷ entry.End ∷ [])
+reading_breaks start left held s rest taken (told, read, sent, none) = broken start left held s rest taken told read (sent_all start.held held told sent)
+
+-- ---- a part that is too long
+
+first_of : (ps : List Packet) → Begins (too_long ∷ []) ps → slice_get ps 0 ≡ Some too_long
+first_of ps begins = ap (λ z. slice_get z 0) begins.1
+
+stays_too_long : (rest more : List ℕ) → packets rest ≡ too_long ∷ [] → packets (rest ++ more) ≡ too_long ∷ []
+stays_too_long rest more is = ends_too_long (rest ++ more) (first_of (packets (rest ++ more)) (subst (λ z. Begins z (packets (rest ++ more))) is (packets-append rest more)))
+
+module _ (start : Start) (left : Option (List ℕ)) (s : Served) (rest : List ℕ) (taken : ℕ) (told : List ℕ) (read : HasRead start left s rest taken told) (long : packets rest ≡ too_long ∷ []) where
+  long_all : List ℕ
+  long_all = all start left s rest taken told read (bytes_left left)
+
+  long_later : List ℕ
+  long_later = later start left s rest taken told read (bytes_left left)
+
+  behind : packets (rest ++ long_later) ≡ too_long ∷ []
+  behind = stays_too_long rest long_later long
+
+  is_long : is_too_long long_all ≡ true
+  unfolding has_too_long long_all long_later
+  is_long = too_long_there start left s rest taken told read (bytes_left left) ∙ ap has_too_long behind
+
+  long_packets : packets_of long_all ≡ read.done ++ wholes (packets (rest ++ long_later))
+  unfolding long_all long_later
+  long_packets = packets_all start left s rest taken told read (bytes_left left)
+
+  long_input : IsInput start.left long_all
+  unfolding long_all all
+  long_input = is_input start.left left read.given read.read
+
+  solo_long : solo_history (run_of s.run) long_all ≡ s.history ++ entry.Close 0 why.TooLong ∷ entry.End ∷ []
+  unfolding wholes long_all long_later
+  solo_long = solo_here start left s rest taken told read (bytes_left left) (ap wholes behind) ∙ closing_long (run_of s.run) long_all s.history is_long
+
+  long_whole : (held : Option (List ℕ)) → held ≡ append_known start.held (told ++ last_words why.TooLong) → IsWhole (started start s.run) left held (s.history ++ entry.Close 0 why.TooLong ∷ entry.End ∷ []) ending.Served
+  long_whole held sent =
+      whole_of s long_all read.done (wholes (packets (rest ++ long_later))) told read.served.has_said long_packets why.TooLong start.left left start.held held ending.Served long_input (ending_long long_all is_long) (inr is_long) solo_long sent
+
+  long_in_part : (held : Option (List ℕ)) → IsSentInPart start.held held (told ++ last_words why.TooLong) → IsBroken (started start s.run) held (s.history ++ entry.Close 0 why.TooLong ∷ entry.End ∷ [])
+  long_in_part held sent =
+      whole_in_part s long_all read.done (wholes (packets (rest ++ long_later))) told read.served.has_said long_packets why.TooLong start.left start.held held long_input solo_long sent
+
+pub refused : (start : Start) (left held : Option (List ℕ)) (s : Served) (rest : List ℕ) (taken : ℕ) (told : List ℕ) → HasRead start left s rest taken told → packets rest ≡ too_long ∷ [] → held ≡ append_known start.held (told ++ last_words why.TooLong)
+    → IsWhole start left held (s.history ++ entry.Close 0 why.TooLong ∷ entry.End ∷ []) ending.Served
+refused start left held s rest taken told read long sent =
+    subst (λ (r : Sampled). IsWhole (started start r) left held (s.history ++ entry.Close 0 why.TooLong ∷ entry.End ∷ []) ending.Served) read.run (long_whole start left s rest taken told read long held sent)
+
+pub refused_in_part : (start : Start) (left held : Option (List ℕ)) (s : Served) (rest : List ℕ) (taken : ℕ) (told : List ℕ) → HasRead start left s rest taken told → packets rest ≡ too_long ∷ [] → IsSentInPart start.held held (told ++ last_words why.TooLong)
+    → IsBroken start held (s.history ++ entry.Close 0 why.TooLong ∷ entry.End ∷ [])
+refused_in_part start left held s rest taken told read long sent =
+    subst (λ (r : Sampled). IsBroken (started start r) held (s.history ++ entry.Close 0 why.TooLong ∷ entry.End ∷ [])) read.run (long_in_part start left s rest taken told read long held sent)
+
+-- ---- no more bytes are served
+
+module _ (start : Start) (left : Option (List ℕ)) (s : Served) (rest : List ℕ) (taken : ℕ) (told : List ℕ) (read : HasRead start left s rest taken told) (more : List ℕ) (open_ : packets rest ≡ []) (done : later start left s rest taken told read more ≡ []) where
+  none_behind : packets (rest ++ later start left s rest taken told read more) ≡ []
+  none_behind = ap (λ z. packets (rest ++ z)) done ∙ ap packets (append-nil rest) ∙ open_
+
+  is_short : is_too_long (all start left s rest taken told read more) ≡ false
+  unfolding has_too_long
+  is_short = too_long_there start left s rest taken told read more ∙ ap has_too_long none_behind
+
+  solo_short : solo_history (run_of s.run) (all start left s rest taken told read more) ≡ closing (run_of s.run) (all start left s rest taken told read more) s.history
+  unfolding wholes
+  solo_short = solo_here start left s rest taken told read more (ap wholes none_behind)
+
+-- ---- more bytes than are read
+
+over_limit : (n : ℕ) → input_limit < n → nat_lt input_limit n ≡ true
+over_limit n over = grind (arith, nat_tests)
+
+within_limit : (n : ℕ) → n ≤ input_limit → nat_lt input_limit n ≡ false
+within_limit n within = grind (arith, nat_tests)
+
+take_no : (n : ℕ) (bytes : List ℕ) → n ≡ 0 → take n bytes ≡ []
+take_no n bytes is = ap (λ z. take z bytes) is
+
+limit_words : (told : List ℕ) → told ++ last_words why.Limit ≡ told
+limit_words told = append-nil told
+
+module _ (start : Start) (left : Option (List ℕ)) (s : Served) (rest piece : List ℕ) (taken : ℕ) (told : List ℕ) (read : HasRead start (prepend_known piece left) s rest taken told) (open_ : packets rest ≡ []) (full : taken ≡ input_limit) (some : 0 < length piece) where
+  over_all : List ℕ
+  over_all = all start (prepend_known piece left) s rest taken told read (piece ++ bytes_left left)
+
+  none_later : later start (prepend_known piece left) s rest taken told read (piece ++ bytes_left left) ≡ []
+  unfolding later
+  none_later = take_no (input_limit - taken) (piece ++ bytes_left left) (omega (arith, full))
+
+  over_input : IsInput start.left over_all
+  unfolding over_all all
+  over_input = subst (λ z. IsInput start.left z) (append_assoc read.given piece (bytes_left left)) (is_input start.left left (read.given ++ piece) (read.read ∙ prepend_two read.given piece left))
+
+  is_over : nat_lt input_limit (length over_all) ≡ true
+  unfolding over_all all
+  is_over = over_limit (length (read.given ++ (piece ++ bytes_left left))) (let e : length read.given ≡ taken = read.count in omega (arith, e, full, some, length-append read.given (piece ++ bytes_left left), length-append piece (bytes_left left)))
+
+  over_short : is_too_long over_all ≡ false
+  unfolding over_all
+  over_short = is_short start (prepend_known piece left) s rest taken told read (piece ++ bytes_left left) open_ none_later
+
+  over_packets : packets_of over_all ≡ read.done ++ wholes (packets (rest ++ later start (prepend_known piece left) s rest taken told read (piece ++ bytes_left left)))
+  unfolding over_all
+  over_packets = packets_all start (prepend_known piece left) s rest taken told read (piece ++ bytes_left left)
+
+  solo_over : solo_history (run_of s.run) over_all ≡ s.history ++ entry.Close 0 why.Limit ∷ entry.End ∷ []
+  unfolding over_all
+  solo_over = solo_short start (prepend_known piece left) s rest taken told read (piece ++ bytes_left left) open_ none_later ∙ closing_limit (run_of s.run) over_all s.history over_short is_over
+
+  over_whole : (held : Option (List ℕ)) → held ≡ append_known start.held told → IsWhole (started start s.run) left held (s.history ++ entry.Close 0 why.Limit ∷ entry.End ∷ []) ending.Limit
+  over_whole held sent =
+      whole_of s over_all read.done (wholes (packets (rest ++ later start (prepend_known piece left) s rest taken told read (piece ++ bytes_left left)))) told read.served.has_said over_packets why.Limit
+      start.left left start.held held ending.Limit over_input (ending_limit over_all over_short is_over) (tt {0}) solo_over (sent ∙ ap (λ z. append_known start.held z) (sym (limit_words told)))
+
+pub at_limit : (start : Start) (left held : Option (List ℕ)) (s : Served) (rest piece : List ℕ) (taken : ℕ) → IsReading start (prepend_known piece left) held s rest taken → taken ≡ input_limit → 0 < length piece
+    → IsWhole start left held (s.history ++ entry.Close 0 why.Limit ∷ entry.End ∷ []) ending.Limit
+at_limit start left held s rest piece taken (told, read, sent, open_) full some =
+    subst (λ (r : Sampled). IsWhole (started start r) left held (s.history ++ entry.Close 0 why.Limit ∷ entry.End ∷ []) ending.Limit) read.run (over_whole start left s rest piece taken told read open_ full some held sent)
+
+-- ---- the end of the input
+
+take_none : (n : ℕ) → take {A = ℕ} n [] ≡ []
+take_none zero = refl
+take_none (suc n) = refl
+
+none_left : (left : Option (List ℕ)) → IsAtEnd left → bytes_left left ≡ []
+unfolding bytes_left
+none_left None ends = refl
+none_left (Some bytes) ends = ends
+
+-- what was asked for is recorded
+abbrev ran_out : Served → Served
+ran_out s = record s { history = batches (facts_of (run_of s.run)) (run_of s.run).count s.history }
+
+module _ (start : Start) (left : Option (List ℕ)) (s : Served) (rest : List ℕ) (taken : ℕ) (told text : List ℕ) (read : HasRead start left s rest taken told) (open_ : packets rest ≡ []) (ends : IsAtEnd left) (has : HasSaid read.done (ran_out s) (told ++ text)) where
+  end_all : List ℕ
+  end_all = all start left s rest taken told read (bytes_left left)
+
+  end_later : later start left s rest taken told read (bytes_left left) ≡ []
+  unfolding later
+  end_later = ap (λ z. take (input_limit - taken) z) (none_left left ends) ∙ take_none (input_limit - taken)
+
+  end_input : IsInput start.left end_all
+  unfolding end_all all
+  end_input = is_input start.left left read.given read.read
+
+  end_within : nat_lt input_limit (length end_all) ≡ false
+  unfolding end_all all
+  end_within = within_limit (length (read.given ++ bytes_left left)) (let e : length read.given ≡ taken = read.count in let l : taken ≤ input_limit = read.within in omega (arith, e, l, length-append read.given (bytes_left left), ap length (none_left left ends)))
+
+  end_short : is_too_long end_all ≡ false
+  unfolding end_all
+  end_short = is_short start left s rest taken told read (bytes_left left) open_ end_later
+
+  end_packets : packets_of end_all ≡ read.done ++ wholes (packets (rest ++ later start left s rest taken told read (bytes_left left)))
+  unfolding end_all
+  end_packets = packets_all start left s rest taken told read (bytes_left left)
+
+  solo_end : solo_history (run_of s.run) end_all ≡ (ran_out s).history ++ entry.Close 0 why.Ended ∷ entry.End ∷ []
+  unfolding end_all
+  solo_end = solo_short start left s rest taken told read (bytes_left left) open_ end_later ∙ closing_ended (run_of s.run) end_all s.history end_short end_within
+
+  end_whole : (held : Option (List ℕ)) → held ≡ append_known start.held (told ++ text) → IsWhole (started start s.run) left held ((ran_out s).history ++ entry.Close 0 why.Ended ∷ entry.End ∷ []) ending.Served
+  end_whole held sent =
+      whole_of (ran_out s) end_all read.done (wholes (packets (rest ++ later start left s rest taken told read (bytes_left left)))) (told ++ text) has end_packets why.Ended
+      start.left left start.held held ending.Served end_input (ending_ended end_all end_short end_within) (inl ends) solo_end (sent ∙ ap (λ z. append_known start.held z) (sym (append-nil (told ++ text))))
+
+  end_broken : (held : Option (List ℕ)) → IsSentInPart start.held held (told ++ text) → IsBroken (started start s.run) held ((ran_out s).history ++ entry.Close 0 why.Fault ∷ entry.End ∷ [])
+  end_broken held sent =
+      cut_off (ran_out s) end_all read.done (wholes (packets (rest ++ later start left s rest taken told read (bytes_left left)))) (told ++ text) (entry.Close 0 why.Ended ∷ entry.End ∷ []) start.left start.held held has end_packets end_input solo_end sent
+
+-- what the recording puts behind the text is said to the client
+abbrev SaysOn : Served → Served → List ℕ → Type 0
+SaysOn s next text = (ps : List (List ℕ)) (sent : List ℕ) → HasSaid ps s (sent ++ []) → HasSaid ps next (sent ++ text)
+
+said_on : (s next : Served) (text : List ℕ) (ps : List (List ℕ)) (told : List ℕ) → SaysOn s next text → next ≡ ran_out s → HasSaid ps s told → HasSaid ps (ran_out s) (told ++ text)
+said_on s next text ps told says is has = subst (λ n. HasSaid ps n (told ++ text)) is (says ps told (subst (λ z. HasSaid ps s z) (sym (append-nil told)) has))
+
+pub finished : (start : Start) (left here held : Option (List ℕ)) (s next : Served) (rest : List ℕ) (taken : ℕ) (text : List ℕ) → IsReading start left here s rest taken → IsAtEnd left → next ≡ ran_out s → SaysOn s next text → held ≡ append_known here text
+    → IsWhole start left held (next.history ++ entry.Close 0 why.Ended ∷ entry.End ∷ []) ending.Served
+finished start left here held s next rest taken text (told, read, sent, open_) ends is says all_sent =
+    subst (λ (n : Served). IsWhole start left held (n.history ++ entry.Close 0 why.Ended ∷ entry.End ∷ []) ending.Served) (sym is)
+    (subst (λ (r : Sampled). IsWhole (started start r) left held ((ran_out s).history ++ entry.Close 0 why.Ended ∷ entry.End ∷ []) ending.Served) read.run
+    (end_whole start left s rest taken told text read open_ ends (said_on s next text read.done told says is read.served.has_said) held (sent_more start.held here held told text sent all_sent)))
+
+pub finished_in_part : (start : Start) (left here held : Option (List ℕ)) (s next : Served) (rest : List ℕ) (taken : ℕ) (text : List ℕ) → IsReading start left here s rest taken → IsAtEnd left → next ≡ ran_out s → SaysOn s next text → TookPart here held text
+    → IsBroken start held (next.history ++ entry.Close 0 why.Fault ∷ entry.End ∷ [])
+finished_in_part start left here held s next rest taken text (told, read, sent, open_) ends is says part =
+    subst (λ (n : Served). IsBroken start held (n.history ++ entry.Close 0 why.Fault ∷ entry.End ∷ [])) (sym is)
+    (subst (λ (r : Sampled). IsBroken (started start r) held ((ran_out s).history ++ entry.Close 0 why.Fault ∷ entry.End ∷ [])) read.run
+    (end_broken start left s rest taken told text read open_ ends (said_on s next text read.done told says is read.served.has_said) held (sent_part start.held here held told text sent part)))

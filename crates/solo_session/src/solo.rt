@@ -1,0 +1,186 @@
+//! One client over a source and a sink.
+ghost use Rattle.std.specs.Prelude.{◌≡◌, ◌≢◌, ℕ, ◌+◌, ◌-◌, ◌<◌, ◌≤◌, List, [], ◌∷◌, ◌++◌, length, take, Option, None, Some, Ok, IfOk, OnOk};
+ghost use Rattle.std.specs.Io.KnownBytes.{IsAtEnd, append_known, prepend_known};
+ghost use Rattle.flat_run.specs.Run.{run_of};
+ghost use Rattle.frame_zero.specs.Packets.{packets, too_long};
+ghost use Rattle.hall_core.specs.Replay.{replay};
+ghost use Rattle.hall_core.specs.declared.entry.Entry.TheVariants as entries;
+ghost use Rattle.outside.specs.Source.{Gives, IsGot, SourceCause};
+ghost use Rattle.solo_session.specs.Pace.{input_limit};
+ghost use Rattle.solo_session.specs.Reading.{HasRead, IsOutputCause, IsReading, IsTurn};
+ghost use Rattle.solo_session.specs.Session.{HasServed, IsServing};
+ghost use Rattle.solo_session.specs.Solo.{IsCause, IsEnded, Start};
+
+use crate::session::Session;
+use frame_zero::Framer;
+use hall_core::Why;
+use outside::{Got, Sink, Source, put_all};
+use sim_base::NoMemory;
+use std::alloc::Global;
+
+/// At most so many bytes of a client are served.
+const LIMIT: usize = 16_777_216;
+
+/// At most so many bytes are read at a time.
+const PIECE: usize = 65_536;
+
+/// How a session ended.
+#[derive(Clone, Copy, Debug, PartialEq, Eq)]
+pub enum Ending {
+    /// All that the client sent was served: its bytes ended, or a part of them was too long.
+    Served,
+    /// The client sent more bytes than are read.
+    Limit,
+    /// The source failed.
+    InputFailed,
+    /// The sink failed.
+    OutputFailed,
+}
+
+/// Puts the next bytes of the source at the front of the piece: no more than are read of a client of which
+/// so many were read, or one more byte where these are all.
+fn read_piece<I: Source>(input: &mut I, piece: &mut [u8], taken: usize) -> Got
+    requires some { 0 < length piece.old }
+    requires taken { taken ≤ input_limit }
+    ensures room { length piece.new ≡ length piece.old }
+    ensures within { IsGot result (length piece.old) }
+    ensures limit { (count : ℕ) → result ≡ Got.Bytes count → taken < input_limit → taken + count ≤ input_limit }
+    ensures bytes { Gives (I.left input.old) (I.left input.new) result piece.new }
+    ensures cause { SourceCause (I.faults input.old) (I.faults input.new) result }
+{
+    let most = (LIMIT - taken).max(1).min(piece.len());
+    input.read(&mut piece[..most])
+}
+
+/// Lets the client go, and ends the history, where nothing more is to be sent.
+fn leave(alloc: Global, session: &mut Session, why: Why) -> Result<(), NoMemory>
+    requires { IsServing (run_of session.old.run) (replay session.old.history) }
+    ensures { OnOk result (session.new ≡ record session.old { history = session.old.history ++ entries.Close 0 why ∷ entries.End ∷ [] }) }
+{
+    let mut text = Vec::new(alloc);
+    session.close(alloc, why, &mut text)
+}
+
+/// Ends the session at a part that is too long, and sends the text with the error behind it.
+fn refuse<O: Sink>(
+    alloc: Global,
+    session: &mut Session,
+    text: &mut Vec<u8>,
+    out: &mut O,
+) -> Result<Ending, NoMemory>
+    requires { IsServing (run_of session.old.run) (replay session.old.history) }
+    ensures ended { IfOk result (λ ending. (start : Start) (left : Option (List ℕ)) (rest told : List ℕ) (taken : ℕ) → HasRead start left session.old rest taken (told ++ text.old.items) → packets rest ≡ too_long ∷ []
+        → O.held out.old ≡ append_known start.held told → IsEnded start left (O.held out.new) session.new.history ending) }
+    ensures run { OnOk result (session.new.run ≡ session.old.run) }
+    ensures cause { IfOk result (λ ending. IsOutputCause (Some ending) (O.faults out.old) (O.faults out.new)) }
+    ensures later { O.faults out.old ≤ O.faults out.new }
+{
+    session.close(alloc, Why::TooLong, text)?;
+    match put_all(out, text) {
+        Ok(()) => Ok(Ending::Served),
+        Err(_) => Ok(Ending::OutputFailed),
+    }
+}
+
+/// Serves the packets that end in the next piece, and sends what they are answered. Says how the session
+/// ended, where it does not go on.
+fn take_piece<O: Sink>(
+    alloc: Global,
+    session: &mut Session,
+    framer: &mut Framer,
+    piece: &[u8],
+    out: &mut O,
+) -> Result<Option<Ending>, NoMemory>
+    requires { IsServing (run_of session.old.run) (replay session.old.history) }
+    ensures turn { IfOk result (λ turn. (start : Start) (left : Option (List ℕ)) (taken : ℕ) → IsReading start (prepend_known piece.now left) (O.held out.old) session.old framer.old taken → taken + length piece.now ≤ input_limit
+        → IsTurn start left (O.held out.new) session.new framer.new (taken + length piece.now) turn) }
+    ensures run { OnOk result (session.new.run ≡ session.old.run) }
+    ensures cause { IfOk result (λ turn. IsOutputCause turn (O.faults out.old) (O.faults out.new)) }
+    ensures later { O.faults out.old ≤ O.faults out.new }
+{
+    framer.feed(piece)?;
+    let mut text = Vec::new(alloc);
+    if session.serve_packets(alloc, framer, &mut text)? {
+        let ending = refuse(alloc, session, &mut text, out)?;
+        return Ok(Some(ending));
+    }
+    match put_all(out, &text) {
+        Ok(()) => Ok(None),
+        Err(_) => {
+            leave(alloc, session, Why::Fault)?;
+            Ok(Some(Ending::OutputFailed))
+        }
+    }
+}
+
+/// Ends the session at the end of the client's bytes: what is asked for is recorded, and all is sent.
+fn finish<O: Sink>(
+    alloc: Global,
+    session: &mut Session,
+    out: &mut O,
+) -> Result<Ending, NoMemory>
+    requires { IsServing (run_of session.old.run) (replay session.old.history) }
+    ensures ended { IfOk result (λ ending. (start : Start) (left : Option (List ℕ)) (rest : List ℕ) (taken : ℕ) → IsReading start left (O.held out.old) session.old rest taken → IsAtEnd left
+        → IsEnded start left (O.held out.new) session.new.history ending) }
+    ensures run { OnOk result (session.new.run ≡ session.old.run) }
+    ensures cause { IfOk result (λ ending. IsOutputCause (Some ending) (O.faults out.old) (O.faults out.new)) }
+    ensures later { O.faults out.old ≤ O.faults out.new }
+{
+    let mut text = Vec::new(alloc);
+    session.run_out(alloc, &mut text)?;
+    match put_all(out, &text) {
+        Ok(()) => {
+            leave(alloc, session, Why::Ended)?;
+            Ok(Ending::Served)
+        }
+        Err(_) => {
+            leave(alloc, session, Why::Fault)?;
+            Ok(Ending::OutputFailed)
+        }
+    }
+}
+
+/// Serves a client that was just opened: reads its bytes from the source, up to the limit of how many are
+/// read, and sends what its packets are answered to the sink. The history and what is sent do not depend on
+/// how reads and writes were cut.
+pub fn serve<I: Source, O: Sink>(
+    alloc: Global,
+    session: &mut Session,
+    input: &mut I,
+    out: &mut O,
+) -> Result<Ending, NoMemory>
+    requires { HasServed [] session.old [] }
+    ensures ended { IfOk result (λ ending. IsEnded (record { run = session.old.run; left = I.left input.old; held = O.held out.old }) (I.left input.new) (O.held out.new) session.new.history ending) }
+    ensures run { OnOk result (session.new.run ≡ session.old.run) }
+    ensures cause { IfOk result (λ ending. IsCause ending (I.faults input.old) (I.faults input.new) (O.faults out.old) (O.faults out.new)) }
+    ensures later_input { I.faults input.old ≤ I.faults input.new }
+    ensures later_output { O.faults out.old ≤ O.faults out.new }
+{
+    let mut framer = Framer::new(alloc)?;
+    let mut piece = vec![in alloc; 0u8; PIECE]?;
+    let mut taken = 0;
+    loop {
+        match read_piece(input, &mut piece, taken) {
+            Got::Bytes(_) if taken == LIMIT => {
+                leave(alloc, session, Why::Limit)?;
+                return Ok(Ending::Limit);
+            }
+            Got::Bytes(count) => {
+                taken += count;
+                if let Some(ending) =
+                    take_piece(alloc, session, &mut framer, &piece[..count], out)?
+                {
+                    return Ok(ending);
+                }
+            }
+            Got::End => {
+                let ended = finish(alloc, session, out)?;
+                return Ok(ended);
+            }
+            Got::Failed => {
+                leave(alloc, session, Why::Fault)?;
+                return Ok(Ending::InputFailed);
+            }
+        }
+    }
+}
