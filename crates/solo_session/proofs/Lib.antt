@@ -8,7 +8,7 @@ mod Taking
 mod Going
 mod Rounds
 mod Paced
-mod Ending
+mod Finished
 mod Extending
 mod Endings
 mod Reading

@@ -27,7 +27,7 @@ pub fn law_of_isolation()
 
 /// The history that a client's bytes give is legal. Its packet entries do what the client's packets ask, and each
 /// packet has its entry where sample 0 settles. At the end of the bytes, as many batches as there are samples leave no goal.
-#[tactic(auto, using(crate::proofs::Paced::solo_legal, crate::proofs::Paced::solo_agrees, crate::proofs::Paced::solo_counted, crate::proofs::Ending::none_left))]
+#[tactic(auto, using(crate::proofs::Paced::solo_legal, crate::proofs::Paced::solo_agrees, crate::proofs::Paced::solo_counted, crate::proofs::Finished::none_left))]
 pub fn law_of_pace()
     ensures legal { (run : Run) → (bytes : List ℕ) → 1 ≤ run.count → Legal (facts_of run) (solo_history run bytes) }
     ensures agrees { (run : Run) → (bytes : List ℕ) → Agrees run (packets_of bytes) 0 (solo_history run bytes) }
