@@ -84,12 +84,12 @@ impl Session {
     /// Takes sample 0 and then the client; where that sample does not settle, nobody is served. Answers
     /// whether the client is.
     pub fn open(&mut self) -> Result<bool, NoMemory>
-        requires new { self.old.history ≡ [] }
-        requires some { 1 ≤ (run_of self.old.run).count }
+        requires { self.old.history ≡ [] }
         ensures served { result ≡ Ok true → (1 ≤ run_length (run_of self.old.run)) × (self.new ≡ record self.old { history = paces.opening }) }
         ensures unsettled { result ≡ Ok false → (run_length (run_of self.old.run) ≡ 0) × (self.new ≡ record self.old { history = entries.Unsettled ∷ entries.End ∷ [] }) }
     {
-        let settles = self.run.reach(1) == 1;
+        let first = self.run.count().min(1);
+        let settles = self.run.reach(first) == 1;
         if settles {
             self.enter(Entry::Record(1, false))?;
             self.enter(Entry::Open(CLIENT))?;
@@ -435,6 +435,13 @@ impl Session {
             push_answer(alloc, text, &Answer::Error(ErrorKind::PacketTooLong))?;
         }
         Ok(())
+    }
+
+    /// Whether a sample did not settle.
+    pub fn is_unsettled(&self) -> bool
+        ensures { result ≡ (replay self.now.history).unsettled }
+    {
+        self.unsettled
     }
 
     /// The history.
