@@ -1,11 +1,8 @@
 -- What a session leaves as it ends, from what its client was served and told.
-use Rattle.std.proofs.Common.{◌≡◌, ℕ, ◌≤◌, false, List, [], ◌∷◌, ◌++◌, length, take, drop, refl, sym, ap, subst, arith, ◌∙◌, append-nil, Option, Some, None, inl, inr}
+use Rattle.std.proofs.Common.{◌≡◌, ℕ, List, [], ◌∷◌, ◌++◌, length, take, drop, refl, sym, ap, subst, arith, ◌∙◌, append-nil, Option, Some, None, inl, inr}
 use Rattle.std.specs.Io.KnownBytes.{append_known, prepend_known}
 use Rattle.std.proofs.lemmas.List.{append_assoc, take-append-drop}
-use Rattle.circuit.specs.Run.{Run}
-use Rattle.flat_run.specs.Run.{Sampled, run_of}
-use Rattle.hall_core.specs.Facts.{facts_of}
-use Rattle.hall_core.specs.Replay.{replay}
+use Rattle.flat_run.specs.Run.{run_of}
 use Rattle.hall_core.specs.declared.entry.Entry.{Entry}
 use Rattle.hall_core.specs.declared.entry.Entry.TheVariants as entry
 use Rattle.hall_core.specs.declared.entry.Why.{Why}
@@ -14,7 +11,7 @@ use Rattle.outside.specs.Sink.{TookPart}
 use Rattle.solo_session.specs.Pace.{packets_of, solo_history}
 use Rattle.solo_session.specs.Said.{Agrees, last_words, packets_in, said}
 use Rattle.solo_session.specs.Session.{HasSaid, Served}
-use Rattle.solo_session.specs.Solo.{IsBroken, IsCutOff, IsInput, IsReadOn, IsSentInPart, IsSession, IsWhole, Start, ending_of}
+use Rattle.solo_session.specs.Solo.{IsBroken, IsInput, IsReadOn, IsSentInPart, IsSession, IsWhole, ending_of}
 use Rattle.solo_session.specs.declared.solo.Ending.{Ending}
 use Rattle.solo_session.proofs.Agreeing.{agrees_more, agrees_other}
 use Rattle.solo_session.proofs.Sayings.{said_closed, said_more}

@@ -6,23 +6,20 @@ use Rattle.std.specs.Io.KnownBytes.{IsAtEnd, append_known, prepend_known}
 use Rattle.std.proofs.Math.Seq.{take-append-add, take-append_seam}
 use Rattle.std.proofs.lemmas.List.{append_assoc, length-take-le}
 use Rattle.std.proofs.lemmas.Bool.Decides.{nat_tests}
-use Rattle.circuit.specs.Run.{Run, run_length}
+use Rattle.circuit.specs.Run.{run_length}
 use Rattle.flat_run.specs.Run.{Sampled, run_of}
 use Rattle.frame_zero.specs.Packets.{Begins, Packet, packets, packets_from, parts_of, too_long, whole}
 use Rattle.frame_zero.proofs.PacketLaws.{packets-append}
 use Rattle.hall_core.specs.Facts.{facts_of}
 use Rattle.hall_core.specs.Replay.{replay}
-use Rattle.hall_core.specs.declared.entry.Entry.{Entry}
 use Rattle.hall_core.specs.declared.entry.Entry.TheVariants as entry
-use Rattle.hall_core.specs.declared.entry.Why.{Why}
 use Rattle.hall_core.specs.declared.entry.Why.TheVariants as why
 use Rattle.outside.specs.Sink.{TookPart}
 use Rattle.solo_session.specs.Pace.{batches, closing, has_too_long, input_limit, opening, packets_of, solo_history, wholes, with_packets}
-use Rattle.solo_session.specs.Reading.{HasRead, IsReading, IsTurn}
+use Rattle.solo_session.specs.Reading.{HasRead, IsReading}
 use Rattle.solo_session.specs.Said.{last_words}
 use Rattle.solo_session.specs.Session.{HasSaid, HasServed, IsServedOf, IsServedSoFar, IsServing, Served}
-use Rattle.solo_session.specs.Solo.{IsBroken, IsEnded, IsInput, IsReadOn, IsSentInPart, IsWhole, Start, ending_of, is_too_long}
-use Rattle.solo_session.specs.declared.solo.Ending.{Ending}
+use Rattle.solo_session.specs.Solo.{IsBroken, IsInput, IsSentInPart, IsWhole, Start, is_too_long}
 use Rattle.solo_session.specs.declared.solo.Ending.TheVariants as ending
 use Rattle.solo_session.proofs.Endings.{bytes_left, cut_off, is_input, sent_all, sent_more, sent_part, whole as whole_of, whole_in_part}
 use Rattle.solo_session.proofs.Extending.{Extends, closing_ended, closing_limit, closing_long, ending_ended, ending_limit, ending_long, extends-closing, extends-more_packets, extends-trans, solo_is}
@@ -41,16 +38,21 @@ nothing_told (Some bytes) = ap Some (sym (append-nil bytes))
 
 pub reads_first : (s : Served) (left held : Option (List ℕ)) → HasServed [] s [] → IsReading (record { run = s.run; left = left; held = held }) left held s [] 0
 unfolding parts_of packets_from
-reads_first s left held served = ([], record {
-  run = refl;
-  given = [];
-  count = refl;
-  within = omega arith;
-  read = no_bytes left;
-  done = [];
-  parts = λ more. refl;
-  served = served;
-}, nothing_told held, refl)
+reads_first s left held served = (
+  [],
+  record {
+    run = refl;
+    given = [];
+    count = refl;
+    within = omega arith;
+    read = no_bytes left;
+    done = [];
+    parts = λ more. refl;
+    served = served;
+  },
+  nothing_told held,
+  refl,
+)
 
 prepend_two : (one other : List ℕ) (left : Option (List ℕ)) → prepend_known one (prepend_known other left) ≡ prepend_known (one ++ other) left
 prepend_two one other None = refl
@@ -229,9 +231,9 @@ refused_in_part start left held s rest taken told read long sent =
 
 -- ---- no more bytes are served
 
-module _ (start : Start) (left : Option (List ℕ)) (s : Served) (rest : List ℕ) (taken : ℕ) (told : List ℕ) (read : HasRead start left s rest taken told) (more : List ℕ) (open_ : packets rest ≡ []) (done : later start left s rest taken told read more ≡ []) where
+module _ (start : Start) (left : Option (List ℕ)) (s : Served) (rest : List ℕ) (taken : ℕ) (told : List ℕ) (read : HasRead start left s rest taken told) (more : List ℕ) (none : packets rest ≡ []) (done : later start left s rest taken told read more ≡ []) where
   none_behind : packets (rest ++ later start left s rest taken told read more) ≡ []
-  none_behind = ap (λ z. packets (rest ++ z)) done ∙ ap packets (append-nil rest) ∙ open_
+  none_behind = ap (λ z. packets (rest ++ z)) done ∙ ap packets (append-nil rest) ∙ none
 
   is_short : is_too_long (all start left s rest taken told read more) ≡ false
   unfolding has_too_long
@@ -255,7 +257,7 @@ take_no n bytes is = ap (λ z. take z bytes) is
 limit_words : (told : List ℕ) → told ++ last_words why.Limit ≡ told
 limit_words told = append-nil told
 
-module _ (start : Start) (left : Option (List ℕ)) (s : Served) (rest piece : List ℕ) (taken : ℕ) (told : List ℕ) (read : HasRead start (prepend_known piece left) s rest taken told) (open_ : packets rest ≡ []) (full : taken ≡ input_limit) (some : 0 < length piece) where
+module _ (start : Start) (left : Option (List ℕ)) (s : Served) (rest piece : List ℕ) (taken : ℕ) (told : List ℕ) (read : HasRead start (prepend_known piece left) s rest taken told) (none : packets rest ≡ []) (full : taken ≡ input_limit) (some : 0 < length piece) where
   over_all : List ℕ
   over_all = all start (prepend_known piece left) s rest taken told read (piece ++ bytes_left left)
 
@@ -273,7 +275,7 @@ module _ (start : Start) (left : Option (List ℕ)) (s : Served) (rest piece : L
 
   over_short : is_too_long over_all ≡ false
   unfolding over_all
-  over_short = is_short start (prepend_known piece left) s rest taken told read (piece ++ bytes_left left) open_ none_later
+  over_short = is_short start (prepend_known piece left) s rest taken told read (piece ++ bytes_left left) none none_later
 
   over_packets : packets_of over_all ≡ read.done ++ wholes (packets (rest ++ later start (prepend_known piece left) s rest taken told read (piece ++ bytes_left left)))
   unfolding over_all
@@ -281,7 +283,7 @@ module _ (start : Start) (left : Option (List ℕ)) (s : Served) (rest piece : L
 
   solo_over : solo_history (run_of s.run) over_all ≡ s.history ++ entry.Close 0 why.Limit ∷ entry.End ∷ []
   unfolding over_all
-  solo_over = solo_short start (prepend_known piece left) s rest taken told read (piece ++ bytes_left left) open_ none_later ∙ closing_limit (run_of s.run) over_all s.history over_short is_over
+  solo_over = solo_short start (prepend_known piece left) s rest taken told read (piece ++ bytes_left left) none none_later ∙ closing_limit (run_of s.run) over_all s.history over_short is_over
 
   over_whole : (held : Option (List ℕ)) → held ≡ append_known start.held told → IsWhole (started start s.run) left held (s.history ++ entry.Close 0 why.Limit ∷ entry.End ∷ []) ending.Limit
   over_whole held sent =
@@ -290,8 +292,8 @@ module _ (start : Start) (left : Option (List ℕ)) (s : Served) (rest piece : L
 
 pub at_limit : (start : Start) (left held : Option (List ℕ)) (s : Served) (rest piece : List ℕ) (taken : ℕ) → IsReading start (prepend_known piece left) held s rest taken → taken ≡ input_limit → 0 < length piece
     → IsWhole start left held (s.history ++ entry.Close 0 why.Limit ∷ entry.End ∷ []) ending.Limit
-at_limit start left held s rest piece taken (told, read, sent, open_) full some =
-    subst (λ (r : Sampled). IsWhole (started start r) left held (s.history ++ entry.Close 0 why.Limit ∷ entry.End ∷ []) ending.Limit) read.run (over_whole start left s rest piece taken told read open_ full some held sent)
+at_limit start left held s rest piece taken (told, read, sent, none) full some =
+    subst (λ (r : Sampled). IsWhole (started start r) left held (s.history ++ entry.Close 0 why.Limit ∷ entry.End ∷ []) ending.Limit) read.run (over_whole start left s rest piece taken told read none full some held sent)
 
 -- ---- the end of the input
 
@@ -308,7 +310,7 @@ none_left (Some bytes) ends = ends
 abbrev ran_out : Served → Served
 ran_out s = record s { history = batches (facts_of (run_of s.run)) (run_of s.run).count s.history }
 
-module _ (start : Start) (left : Option (List ℕ)) (s : Served) (rest : List ℕ) (taken : ℕ) (told text : List ℕ) (read : HasRead start left s rest taken told) (open_ : packets rest ≡ []) (ends : IsAtEnd left) (has : HasSaid read.done (ran_out s) (told ++ text)) where
+module _ (start : Start) (left : Option (List ℕ)) (s : Served) (rest : List ℕ) (taken : ℕ) (told text : List ℕ) (read : HasRead start left s rest taken told) (none : packets rest ≡ []) (ends : IsAtEnd left) (has : HasSaid read.done (ran_out s) (told ++ text)) where
   end_all : List ℕ
   end_all = all start left s rest taken told read (bytes_left left)
 
@@ -326,7 +328,7 @@ module _ (start : Start) (left : Option (List ℕ)) (s : Served) (rest : List �
 
   end_short : is_too_long end_all ≡ false
   unfolding end_all
-  end_short = is_short start left s rest taken told read (bytes_left left) open_ end_later
+  end_short = is_short start left s rest taken told read (bytes_left left) none end_later
 
   end_packets : packets_of end_all ≡ read.done ++ wholes (packets (rest ++ later start left s rest taken told read (bytes_left left)))
   unfolding end_all
@@ -334,7 +336,7 @@ module _ (start : Start) (left : Option (List ℕ)) (s : Served) (rest : List �
 
   solo_end : solo_history (run_of s.run) end_all ≡ (ran_out s).history ++ entry.Close 0 why.Ended ∷ entry.End ∷ []
   unfolding end_all
-  solo_end = solo_short start left s rest taken told read (bytes_left left) open_ end_later ∙ closing_ended (run_of s.run) end_all s.history end_short end_within
+  solo_end = solo_short start left s rest taken told read (bytes_left left) none end_later ∙ closing_ended (run_of s.run) end_all s.history end_short end_within
 
   end_whole : (held : Option (List ℕ)) → held ≡ append_known start.held (told ++ text) → IsWhole (started start s.run) left held ((ran_out s).history ++ entry.Close 0 why.Ended ∷ entry.End ∷ []) ending.Served
   end_whole held sent =
@@ -354,14 +356,14 @@ said_on s next text ps told says is has = subst (λ n. HasSaid ps n (told ++ tex
 
 pub finished : (start : Start) (left here held : Option (List ℕ)) (s next : Served) (rest : List ℕ) (taken : ℕ) (text : List ℕ) → IsReading start left here s rest taken → IsAtEnd left → next ≡ ran_out s → SaysOn s next text → held ≡ append_known here text
     → IsWhole start left held (next.history ++ entry.Close 0 why.Ended ∷ entry.End ∷ []) ending.Served
-finished start left here held s next rest taken text (told, read, sent, open_) ends is says all_sent =
+finished start left here held s next rest taken text (told, read, sent, none) ends is says all_sent =
     subst (λ (n : Served). IsWhole start left held (n.history ++ entry.Close 0 why.Ended ∷ entry.End ∷ []) ending.Served) (sym is)
     (subst (λ (r : Sampled). IsWhole (started start r) left held ((ran_out s).history ++ entry.Close 0 why.Ended ∷ entry.End ∷ []) ending.Served) read.run
-    (end_whole start left s rest taken told text read open_ ends (said_on s next text read.done told says is read.served.has_said) held (sent_more start.held here held told text sent all_sent)))
+    (end_whole start left s rest taken told text read none ends (said_on s next text read.done told says is read.served.has_said) held (sent_more start.held here held told text sent all_sent)))
 
 pub finished_in_part : (start : Start) (left here held : Option (List ℕ)) (s next : Served) (rest : List ℕ) (taken : ℕ) (text : List ℕ) → IsReading start left here s rest taken → IsAtEnd left → next ≡ ran_out s → SaysOn s next text → TookPart here held text
     → IsBroken start held (next.history ++ entry.Close 0 why.Fault ∷ entry.End ∷ [])
-finished_in_part start left here held s next rest taken text (told, read, sent, open_) ends is says part =
+finished_in_part start left here held s next rest taken text (told, read, sent, none) ends is says part =
     subst (λ (n : Served). IsBroken start held (n.history ++ entry.Close 0 why.Fault ∷ entry.End ∷ [])) (sym is)
     (subst (λ (r : Sampled). IsBroken (started start r) held ((ran_out s).history ++ entry.Close 0 why.Fault ∷ entry.End ∷ [])) read.run
-    (end_broken start left s rest taken told text read open_ ends (said_on s next text read.done told says is read.served.has_said) held (sent_part start.held here held told text sent part)))
+    (end_broken start left s rest taken told text read none ends (said_on s next text read.done told says is read.served.has_said) held (sent_part start.held here held told text sent part)))

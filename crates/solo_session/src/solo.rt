@@ -114,11 +114,7 @@ fn take_piece<O: Sink>(
 }
 
 /// Ends the session at the end of the client's bytes: what is asked for is recorded, and all is sent.
-fn finish<O: Sink>(
-    alloc: Global,
-    session: &mut Session,
-    out: &mut O,
-) -> Result<Ending, NoMemory>
+fn finish<O: Sink>(alloc: Global, session: &mut Session, out: &mut O) -> Result<Ending, NoMemory>
     requires { IsServing (run_of session.old.run) (replay session.old.history) }
     ensures ended { IfOk result (λ ending. (start : Start) (left : Option (List ℕ)) (rest : List ℕ) (taken : ℕ) → IsReading start left (O.held out.old) session.old rest taken → IsAtEnd left
         → IsEnded start left (O.held out.new) session.new.history ending) }
@@ -167,15 +163,14 @@ pub fn serve<I: Source, O: Sink>(
             }
             Got::Bytes(count) => {
                 taken += count;
-                if let Some(ending) =
-                    take_piece(alloc, session, &mut framer, &piece[..count], out)?
-                {
+                let given = &piece[..count];
+                if let Some(ending) = take_piece(alloc, session, &mut framer, given, out)? {
                     return Ok(ending);
                 }
             }
             Got::End => {
-                let ended = finish(alloc, session, out)?;
-                return Ok(ended);
+                let ending = finish(alloc, session, out)?;
+                return Ok(ending);
             }
             Got::Failed => {
                 leave(alloc, session, Why::Fault)?;

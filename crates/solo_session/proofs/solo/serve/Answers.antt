@@ -1,9 +1,9 @@
-use Rattle.std.proofs.Common.{◌≡◌, ◌+◌, ◌<◌, ◌≤◌, ◌++◌, List, ℕ, length, take, drop, Option, ap, refl, sym, subst, arith, ◌∙◌}
-use Rattle.std.specs.Io.KnownBytes.{IsAtEnd, prepend_known}
+use Rattle.std.proofs.Common.{◌≡◌, ◌+◌, ◌<◌, ◌≤◌, List, ℕ, length, take, drop, Option, refl, sym, subst, arith, ◌∙◌}
+use Rattle.std.specs.Io.KnownBytes.{IsAtEnd}
 use Rattle.solo_session.specs.Pace.{input_limit}
 use Rattle.solo_session.specs.Reading.{IsOutputCause, IsReading, IsTurn}
 use Rattle.solo_session.specs.Session.{Served}
-use Rattle.solo_session.specs.Solo.{IsBroken, IsWhole, Start}
+use Rattle.solo_session.specs.Solo.{IsBroken, IsWhole}
 use Rattle.solo_session.specs.declared.solo.Ending.{Ending}
 use Rattle.solo_session.specs.declared.solo.Ending.TheVariants as ending
 use Rattle.solo_session.proofs.Reading.{at_limit, front_count, front_some, reading_breaks, reading_serves, reads_first, reads_piece}
@@ -35,9 +35,9 @@ returns-in-Some-clause-ended g c =
     let below : c.loop-session.taken < input_limit = omega (arith, c.loop-session.invariant.within, c.if-taken-eq-LIMIT.false) in
     let within : c.loop-session.taken + c.in-Bytes.field-0 ≤ input_limit = c.in-Bytes.ensures.limit c.in-Bytes.field-0 refl below in
     let turn : IsTurn (record { run = c.args.session.now.run; left = g.I.Source.left c.args.input.now; held = g.O.Sink.held c.args.out.now }) (g.I.Source.left c.read_piece.new.input) (g.O.Sink.held c.take_piece.new.out) c.take_piece.new.session c.take_piece.new.framer (c.loop-session.taken + length (take c.in-Bytes.field-0 c.deref.result.now)) c.in_ok-ending-in-Bytes-2.field-0 =
-        c.in_ok-ending-in-Bytes-2.ensures.turn (record { run = c.args.session.now.run; left = g.I.Source.left c.args.input.now; held = g.O.Sink.held c.args.out.now }) (g.I.Source.left c.read_piece.new.input) c.loop-session.taken
-        (reads_piece (record { run = c.args.session.now.run; left = g.I.Source.left c.args.input.now; held = g.O.Sink.held c.args.out.now }) (g.I.Source.left c.loop-session.input) (g.I.Source.left c.read_piece.new.input) (g.O.Sink.held c.loop-session.out) c.loop-session.session c.loop-session.framer c.loop-session.taken c.in-Bytes.field-0 c.loop-session.piece.len c.read_piece.new.piece c.deref.result.now (drop (length c.read_piece.new.piece) c.loop-session.piece.items) c.loop-session.invariant.reading c.in-Bytes.ensures.bytes c.deref.ensures.value (c.in-Bytes.ensures.room ∙ c.deref_mut.ensures.len))
-        (omega (arith, count, within)) in
+    c.in_ok-ending-in-Bytes-2.ensures.turn (record { run = c.args.session.now.run; left = g.I.Source.left c.args.input.now; held = g.O.Sink.held c.args.out.now }) (g.I.Source.left c.read_piece.new.input) c.loop-session.taken
+    (reads_piece (record { run = c.args.session.now.run; left = g.I.Source.left c.args.input.now; held = g.O.Sink.held c.args.out.now }) (g.I.Source.left c.loop-session.input) (g.I.Source.left c.read_piece.new.input) (g.O.Sink.held c.loop-session.out) c.loop-session.session c.loop-session.framer c.loop-session.taken c.in-Bytes.field-0 c.loop-session.piece.len c.read_piece.new.piece c.deref.result.now (drop (length c.read_piece.new.piece) c.loop-session.piece.items) c.loop-session.invariant.reading c.in-Bytes.ensures.bytes c.deref.ensures.value (c.in-Bytes.ensures.room ∙ c.deref_mut.ensures.len))
+    (omega (arith, count, within)) in
     subst (λ (t : Option Ending). IsTurn (record { run = c.args.session.now.run; left = g.I.Source.left c.args.input.now; held = g.O.Sink.held c.args.out.now }) (g.I.Source.left c.read_piece.new.input) (g.O.Sink.held c.take_piece.new.out) c.take_piece.new.session c.take_piece.new.framer (c.loop-session.taken + length (take c.in-Bytes.field-0 c.deref.result.now)) t) c.in-Some.is turn
 
 pub loop-session-preserved : goal.loop-session-preserved
@@ -47,12 +47,12 @@ loop-session-preserved g c =
     let below : c.loop-session.taken < input_limit = omega (arith, c.loop-session.invariant.within, c.if-taken-eq-LIMIT.false) in
     let within : c.loop-session.taken + c.in-Bytes.field-0 ≤ input_limit = c.in-Bytes.ensures.limit c.in-Bytes.field-0 refl below in
     let turn : IsTurn (record { run = c.args.session.now.run; left = g.I.Source.left c.args.input.now; held = g.O.Sink.held c.args.out.now }) (g.I.Source.left c.read_piece.new.input) (g.O.Sink.held c.take_piece.new.out) c.take_piece.new.session c.take_piece.new.framer (c.loop-session.taken + length (take c.in-Bytes.field-0 c.deref.result.now)) c.in_ok-ending-in-Bytes-2.field-0 =
-        c.in_ok-ending-in-Bytes-2.ensures.turn (record { run = c.args.session.now.run; left = g.I.Source.left c.args.input.now; held = g.O.Sink.held c.args.out.now }) (g.I.Source.left c.read_piece.new.input) c.loop-session.taken
-        (reads_piece (record { run = c.args.session.now.run; left = g.I.Source.left c.args.input.now; held = g.O.Sink.held c.args.out.now }) (g.I.Source.left c.loop-session.input) (g.I.Source.left c.read_piece.new.input) (g.O.Sink.held c.loop-session.out) c.loop-session.session c.loop-session.framer c.loop-session.taken c.in-Bytes.field-0 c.loop-session.piece.len c.read_piece.new.piece c.deref.result.now (drop (length c.read_piece.new.piece) c.loop-session.piece.items) c.loop-session.invariant.reading c.in-Bytes.ensures.bytes c.deref.ensures.value (c.in-Bytes.ensures.room ∙ c.deref_mut.ensures.len))
-        (omega (arith, count, within)) in
+    c.in_ok-ending-in-Bytes-2.ensures.turn (record { run = c.args.session.now.run; left = g.I.Source.left c.args.input.now; held = g.O.Sink.held c.args.out.now }) (g.I.Source.left c.read_piece.new.input) c.loop-session.taken
+    (reads_piece (record { run = c.args.session.now.run; left = g.I.Source.left c.args.input.now; held = g.O.Sink.held c.args.out.now }) (g.I.Source.left c.loop-session.input) (g.I.Source.left c.read_piece.new.input) (g.O.Sink.held c.loop-session.out) c.loop-session.session c.loop-session.framer c.loop-session.taken c.in-Bytes.field-0 c.loop-session.piece.len c.read_piece.new.piece c.deref.result.now (drop (length c.read_piece.new.piece) c.loop-session.piece.items) c.loop-session.invariant.reading c.in-Bytes.ensures.bytes c.deref.ensures.value (c.in-Bytes.ensures.room ∙ c.deref_mut.ensures.len))
+    (omega (arith, count, within)) in
     let goes : IsReading (record { run = c.args.session.now.run; left = g.I.Source.left c.args.input.now; held = g.O.Sink.held c.args.out.now }) (g.I.Source.left c.read_piece.new.input) (g.O.Sink.held c.take_piece.new.out) c.take_piece.new.session c.take_piece.new.framer (c.loop-session.taken + c.in-Bytes.field-0) =
-        subst (λ (k : ℕ). IsReading (record { run = c.args.session.now.run; left = g.I.Source.left c.args.input.now; held = g.O.Sink.held c.args.out.now }) (g.I.Source.left c.read_piece.new.input) (g.O.Sink.held c.take_piece.new.out) c.take_piece.new.session c.take_piece.new.framer (c.loop-session.taken + k)) count
-        (subst (λ (t : Option Ending). IsTurn (record { run = c.args.session.now.run; left = g.I.Source.left c.args.input.now; held = g.O.Sink.held c.args.out.now }) (g.I.Source.left c.read_piece.new.input) (g.O.Sink.held c.take_piece.new.out) c.take_piece.new.session c.take_piece.new.framer (c.loop-session.taken + length (take c.in-Bytes.field-0 c.deref.result.now)) t) c.in_default.is turn) in
+    subst (λ (k : ℕ). IsReading (record { run = c.args.session.now.run; left = g.I.Source.left c.args.input.now; held = g.O.Sink.held c.args.out.now }) (g.I.Source.left c.read_piece.new.input) (g.O.Sink.held c.take_piece.new.out) c.take_piece.new.session c.take_piece.new.framer (c.loop-session.taken + k)) count
+    (subst (λ (t : Option Ending). IsTurn (record { run = c.args.session.now.run; left = g.I.Source.left c.args.input.now; held = g.O.Sink.held c.args.out.now }) (g.I.Source.left c.read_piece.new.input) (g.O.Sink.held c.take_piece.new.out) c.take_piece.new.session c.take_piece.new.framer (c.loop-session.taken + length (take c.in-Bytes.field-0 c.deref.result.now)) t) c.in_default.is turn) in
     record {
       reading = goes;
       serving = reading_serves (record { run = c.args.session.now.run; left = g.I.Source.left c.args.input.now; held = g.O.Sink.held c.args.out.now }) (g.I.Source.left c.read_piece.new.input) (g.O.Sink.held c.take_piece.new.out) c.take_piece.new.session c.take_piece.new.framer (c.loop-session.taken + c.in-Bytes.field-0) goes;
@@ -65,7 +65,7 @@ loop-session-preserved g c =
 
 pub returns-in-End-clause-ended : goal.returns-in-End-clause-ended
 returns-in-End-clause-ended g c =
-    c.in_ok-ended-in-End.ensures.ended (record { run = c.args.session.now.run; left = g.I.Source.left c.args.input.now; held = g.O.Sink.held c.args.out.now }) (g.I.Source.left c.read_piece.new.input) c.loop-session.framer c.loop-session.taken
+    c.in_ok-ending-in-End.ensures.ended (record { run = c.args.session.now.run; left = g.I.Source.left c.args.input.now; held = g.O.Sink.held c.args.out.now }) (g.I.Source.left c.read_piece.new.input) c.loop-session.framer c.loop-session.taken
     (subst (λ z. IsReading (record { run = c.args.session.now.run; left = g.I.Source.left c.args.input.now; held = g.O.Sink.held c.args.out.now }) z (g.O.Sink.held c.loop-session.out) c.loop-session.session c.loop-session.framer c.loop-session.taken) (sym c.in-End.ensures.bytes.0) c.loop-session.invariant.reading)
     (subst (λ z. IsAtEnd z) (sym c.in-End.ensures.bytes.0) c.in-End.ensures.bytes.1)
 
