@@ -419,12 +419,7 @@ impl Session {
     }
 
     /// Lets the client go, and ends the history.
-    pub fn close(
-        &mut self,
-        alloc: Global,
-        why: Why,
-        text: &mut Vec<u8>,
-    ) -> Result<(), NoMemory>
+    pub fn close(&mut self, alloc: Global, why: Why, text: &mut Vec<u8>) -> Result<(), NoMemory>
         requires serving { IsServing (run_of self.old.run) (replay self.old.history) }
         ensures session { OnOk result (self.new ≡ record self.old { history = self.old.history ++ entries.Close 0 why ∷ entries.End ∷ [] }) }
         ensures text { OnOk result (text.new.items ≡ text.old.items ++ last_words why) }
