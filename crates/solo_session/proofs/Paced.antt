@@ -6,6 +6,7 @@ use Rattle.std.proofs.lemmas.Bool.Decides.{nat_tests}
 use Rattle.std.proofs.lemmas.List.{append_assoc, length_push}
 use Rattle.sim_base.specs.declared.kinds.Kinds.{Kinds}
 use Rattle.circuit.specs.Run.{Run, run_length}
+use Rattle.flat_run.specs.Run.{run_of}
 use Rattle.frame_zero.specs.Packets.{packets}
 use Rattle.hall_core.specs.Facts.{facts_of}
 use Rattle.hall_core.specs.Laws.{Taken, none, one_more}
@@ -24,7 +25,7 @@ use Rattle.solo_session.specs.Refused.{is_greeted}
 use Rattle.solo_session.specs.Reply.{act_of}
 use Rattle.solo_session.specs.Said.{Agrees, packets_in}
 use Rattle.solo_session.specs.Pace.{batch, batch_size, batches, closing, has_too_long, hits_goal, input_limit, may_record, may_stop, most_next, opening, packets_of, record_entries, record_of, recorded, solo_history, some_hits, stop_entries, stopped, with_packet, with_packets}
-use Rattle.solo_session.specs.Session.{IsServing}
+use Rattle.solo_session.specs.Session.{IsServing, Served}
 use Rattle.solo_session.proofs.Agreeing.{agrees_batch, agrees_more, agrees_other, agrees_packet, no_packet_there}
 use Rattle.solo_session.proofs.Going.{batches_push, may_in, opened_agrees, opened_taken}
 use Rattle.solo_session.proofs.Sayings.{packets_in_batch, packets_in_other, packets_in_push_packet}
@@ -54,6 +55,11 @@ serving_if run h false serving = subst (λ z. IsServing run (replay z)) (sym (ap
 pub serving_batch : (run : Run) (h : List Entry) → IsServing run (replay h) → IsServing run (replay (batch (facts_of run) h))
 serving_batch run h serving =
     serving_if run (recorded (facts_of run) h) (may_stop (facts_of run) (replay (recorded (facts_of run) h))) (serving_recorded run h (most_next (facts_of run) (replay h)) refl serving)
+
+pub serving_batches : (run : Run) (k : ℕ) (h : List Entry) → IsServing run (replay h) → IsServing run (replay (batches (facts_of run) k h))
+unfolding batches
+serving_batches run zero h serving = serving
+serving_batches run (suc k) h serving = serving_batches run k (batch (facts_of run) h) (serving_batch run h serving)
 
 -- ---- what holds of a history of the pace
 
@@ -118,6 +124,12 @@ paced_opening run some = record {
 
 pub serving_packets : (run : Run) (ps : List (List ℕ)) → 1 ≤ run_length run → IsServing run (replay (with_packets run [] opening ps))
 serving_packets run ps some = (paced_packets run [] opening ps (paced_opening run some)).serving
+
+-- ---- a session from call to call
+
+pub run_out_serving : (s next : Served) → IsServing (run_of s.run) (replay s.history) → next ≡ record s { history = batches (facts_of (run_of s.run)) (run_of s.run).count s.history } → IsServing (run_of next.run) (replay next.history)
+run_out_serving s next serving is =
+    subst (λ (x : Served). IsServing (run_of x.run) (replay x.history)) (sym is) (serving_batches (run_of s.run) (run_of s.run).count s.history serving)
 
 -- ---- a history that has ended
 
