@@ -10,3 +10,8 @@ pub mod Walking
 pub mod Nodes
 pub mod Origins
 pub mod Roots
+pub mod Tables
+pub mod Sources
+pub mod Notes
+pub mod Readers
+pub mod Plans

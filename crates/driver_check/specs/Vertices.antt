@@ -35,6 +35,7 @@ ArePlaced c nodes = (k : ℕ) (n : Node) → slice_get nodes k ≡ Some n → Is
 
 -- all cells and read ports, each at its place, and the places of the first port of each memory
 pub record AreParts (c : Circuit) (nodes : List Node) (ports : List ℕ) : Type 0 where
+  pub long : length nodes ≡ length c.cells + before ports_of c.mems (length c.mems)
   pub placed : ArePlaced c nodes
   pub every : (n : Node) → IsPart c n → slice_get nodes (place_of c n) ≡ Some n
   pub ports_long : length ports ≡ length c.mems

@@ -29,6 +29,19 @@ impl Parts {
         let _ = &self.nodes;
         self.ports[mem as usize] + port as usize
     }
+
+    /// The place of a cell or a read port.
+    pub fn place(&self, circuit: &Circuit, node: Node) -> usize
+        requires parts { AreParts circuit.now self.now.nodes.items self.now.ports.items }
+        requires there { IsPart circuit.now node }
+        ensures value { result ≡ place_of circuit.now node }
+        ensures below { result < length self.now.nodes.items }
+    {
+        match node {
+            Node::Cell(cell) => cell as usize,
+            Node::Read(mem, port) => self.port_place(circuit, mem, port),
+        }
+    }
 }
 
 /// Adds the cells.

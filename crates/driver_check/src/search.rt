@@ -178,7 +178,9 @@ impl Search {
         }
     }
 
-    /// Searches from a new vertex until nothing is left on the stack. No machine takes 2^64 steps, so the
+    /// Searches from a new vertex until nothing is left on the stack. Each turn goes one vertex or one span
+    /// further in the row of the top frame, enters a vertex that was new, takes a frame off, or gives up:
+    /// there are at most twice as many turns as there are vertices, spans, and vertices in spans, and the
     /// end of the loop is not met.
     fn visit(&mut self, graph: &Graph, vertex: usize) -> Result<(), NoMemory>
         requires graph { AreInside (row_of graph.now) (size_of_graph graph.now) }

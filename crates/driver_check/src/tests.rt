@@ -1,4 +1,6 @@
 //! Circuits that have an order, and circuits that have none.
+mod plans;
+
 use crate::{Node, order};
 use circuit::{
     BitAt, By, Cell, Circuit, DesignFault, DesignKind, Drive, Mem, Net, Op, Piece, ReadPort, Scope,
@@ -14,6 +16,8 @@ use std::test::Fail;
 #[derive(Clone, Copy, Debug)]
 enum Driver {
     Zero,
+    Input(u32, u32),
+    Reg(u32, u32),
     Wire(u32, u32),
     Cell(u32, u32),
     Read(u32),
@@ -54,6 +58,8 @@ fn drives_of(alloc: Global, rows: &[DriveRow]) -> Result<Items<Drive>, NoMemory>
     for (net, at, width, driver) in rows {
         let by = match *driver {
             Driver::Zero => By::Const(Bits::zero(alloc, *width)?),
+            Driver::Input(input, at) => By::Input(input, at),
+            Driver::Reg(register, at) => By::Reg(register, at),
             Driver::Wire(net, at) => By::Wire(net, at),
             Driver::Cell(cell, at) => By::Cell(cell, at),
             Driver::Read(port) => By::Read(0, port, 0),

@@ -94,8 +94,9 @@ impl Walk {
     }
 }
 
-/// Walks from the first stuck bit until a bit comes for the second time. No machine takes 2^64 steps, so
-/// the end of the loop is not met.
+/// Walks from the first stuck bit until a bit comes for the second time. Each turn but the last adds a bit
+/// that was not in the walk, so there is at most one turn more than there are bits, and the end of the
+/// loop is not met.
 fn walk_from(
     alloc: Global,
     circuit: &Circuit,

@@ -34,6 +34,7 @@ returns c =
     let long : length c.loop-place.nodes.items ≡ length circuit.cells + before ports_of circuit.mems (length circuit.mems) =
     c.loop-place.invariant.long ∙ ap (λ (n : ℕ). length circuit.cells + before ports_of circuit.mems n) end in
     record {
+      long = long;
       placed = c.loop-place.invariant.placed;
       every = all_placed circuit c.loop-place.nodes.items c.loop-place.invariant.placed long;
       ports_long = c.loop-place.invariant.ports_long ∙ end;
