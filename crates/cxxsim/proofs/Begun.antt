@@ -3,7 +3,8 @@ use Rattle.std.proofs.Common.{◌≡◌, ℕ, List, [], ◌++◌, take, drop, Op
 use Rattle.std.proofs.lemmas.List.{append-nil, take-append-drop}
 use Rattle.std.specs.Io.KnownBytes.{append_known}
 use Rattle.outside.specs.Sink.{TookPart}
-use Rattle.cxxsim.specs.Trace.{HasLeft, IsBegun}
+use Rattle.solo_session.specs.Solo.{IsSentInPart}
+use Rattle.cxxsim.specs.Trace.{HasLeft}
 
 append_known-nothing : (o : Option (List ℕ)) → append_known o [] ≡ o
 append_known-nothing None = refl
@@ -36,15 +37,22 @@ pub all_gone : (before here now : Option (List ℕ)) (text left : List ℕ) → 
 all_gone before here now text left h e =
     e ∙ ap (λ o. append_known o left) h.held ∙ append_known-append before h.gone left ∙ ap (append_known before) (sym h.parts)
 
-pub begun_whole : (before now : Option (List ℕ)) (text : List ℕ) → now ≡ append_known before text → IsBegun before now text
-begun_whole before now text e = ([], record { gone = text; parts = sym (append-nil text); held = e })
+pub begun : (before now : Option (List ℕ)) (text left : List ℕ) → HasLeft before now text left → IsSentInPart before now text
+begun before now text left h = record { sent = h.gone; more = left; parts = h.parts; holds = h.held }
 
-pub begun_part : (before now : Option (List ℕ)) (text : List ℕ) → TookPart before now text → IsBegun before now text
-begun_part before now text took = (drop took.count text, record { gone = take took.count text; parts = sym (take-append-drop took.count text); held = took.holds })
+left_begun : (before now : Option (List ℕ)) (text : List ℕ) (b : IsSentInPart before now text) → HasLeft before now text b.more
+left_begun before now text b = record { gone = b.sent; parts = b.parts; held = b.holds }
 
-pub begun_then : (before here now : Option (List ℕ)) (text left : List ℕ) → HasLeft before here text left → IsBegun here now left → IsBegun before now text
-begun_then before here now text left first (rest, second) = (rest, left_then before here now text left rest first second)
+pub begun_whole : (before now : Option (List ℕ)) (text : List ℕ) → now ≡ append_known before text → IsSentInPart before now text
+begun_whole before now text e = record { sent = text; more = []; parts = sym (append-nil text); holds = e }
+
+-- a part of a text that a sink took is a beginning
+pub begun_part : (before now : Option (List ℕ)) (text : List ℕ) → TookPart before now text → IsSentInPart before now text
+begun_part before now text took = record { sent = take took.count text; more = drop took.count text; parts = sym (take-append-drop took.count text); holds = took.holds }
+
+pub begun_then : (before here now : Option (List ℕ)) (text left : List ℕ) → HasLeft before here text left → IsSentInPart here now left → IsSentInPart before now text
+begun_then before here now text left first second = begun before now text second.more (left_then before here now text left second.more first (left_begun here now left second))
 
 -- a beginning of a text is one of a longer text
-pub begun_longer : (before now : Option (List ℕ)) (text more text' : List ℕ) → IsBegun before now text → text' ≡ text ++ more → IsBegun before now text'
-begun_longer before now text more text' (left, h) e = (left ++ more, left_more before now text left more text' (left ++ more) h e refl)
+pub begun_longer : (before now : Option (List ℕ)) (text more text' : List ℕ) → IsSentInPart before now text → text' ≡ text ++ more → IsSentInPart before now text'
+begun_longer before now text more text' b e = begun before now text' (b.more ++ more) (left_more before now text b.more more text' (b.more ++ more) (left_begun before now text b) e refl)

@@ -4,7 +4,8 @@ use Rattle.std.specs.Prelude.{is_some, nat_lt}
 use Rattle.std.proofs.lemmas.Bool.{cases_Bool, cases_lt, cond-true, cond-false, false≢true}
 use Rattle.std.proofs.lemmas.List.{append-nil}
 use Rattle.circuit.specs.Run.{Run, Standing, run_length, settled_samples, standing_after, start}
-use Rattle.cxxsim.specs.Trace.{HasLeft, IsBegun}
+use Rattle.solo_session.specs.Solo.{IsSentInPart}
+use Rattle.cxxsim.specs.Trace.{HasLeft}
 use Rattle.cxxsim.specs.TraceText.{header, last_line, run_text, sample_line, sample_lines, trace_text}
 use Rattle.cxxsim.proofs.Begun.{begun_longer, left_more, left_then}
 
@@ -79,6 +80,6 @@ whole_begins run k le is =
     )
 
 -- what was handed on up to a sample that settles is a beginning of the whole text
-pub begun_here : (run : Run) (k : ℕ) (before now : Option (List ℕ)) → k ≤ run.count → is_some (standing_after run k) ≡ true → IsBegun before now (header run.circuit ++ sample_lines run k) → IsBegun before now (run_text run)
+pub begun_here : (run : Run) (k : ℕ) (before now : Option (List ℕ)) → k ≤ run.count → is_some (standing_after run k) ≡ true → IsSentInPart before now (header run.circuit ++ sample_lines run k) → IsSentInPart before now (run_text run)
 begun_here run k before now le is begun =
     let (more, e) = whole_begins run k le is in begun_longer before now (header run.circuit ++ sample_lines run k) more (run_text run) begun e

@@ -1,14 +1,15 @@
 -- What a trace of two files is.
-use Rattle.std.specs.Prelude.{◌≡◌, ◌⊎◌, ℕ, ◌<◌, ◌≤◌, ◌^◌, List, ◌++◌, length, Bool, nat_lt, Option, Some, None, option_and_then, slice_get, slice_index}
-use Rattle.circuit.specs.declared.netlist.Net.{Net}
+use Rattle.std.specs.Prelude.{◌≡◌, ◌⊎◌, ℕ, ◌≤◌, List, ◌++◌, length, Bool, nat_lt, Option, Some, None, option_and_then}
 use Rattle.std.specs.Io.KnownBytes.{append_known}
-use Rattle.circuit.specs.Run.{Run, run_length}
+use Rattle.circuit.specs.Run.{run_length}
 use Rattle.circuit.specs.declared.netlist.Circuit.{Circuit}
 use Rattle.flat_text.specs.Module.{module_of}
 use Rattle.flat_design.specs.Circuit.{circuit_of}
-use Rattle.flat_stimulus.specs.Block.{Block, row_of, sample_count}
+use Rattle.flat_run.specs.Run.{run_under}
+use Rattle.flat_stimulus.specs.Block.{Block, sample_count}
 use Rattle.flat_stimulus.specs.Text.{block_of}
 use Rattle.outside.specs.Shelf.{File, IsOf, IsLonger}
+use Rattle.solo_session.specs.Solo.{IsSentInPart}
 use Rattle.cxxsim.specs.TraceText.{run_text}
 use Rattle.cxxsim.specs.declared.refusal.Refusal.{Refusal}
 use Rattle.cxxsim.specs.declared.refusal.Refusal.TheVariants as refusal
@@ -16,10 +17,6 @@ use Rattle.cxxsim.specs.declared.refusal.Refusal.TheVariants as refusal
 -- the circuit of a design's text
 abbrev pub design_circuit : List ℕ → Option Circuit
 design_circuit text = option_and_then circuit_of (module_of text)
-
--- the run of a circuit under the samples of a block
-abbrev pub run_under : Circuit → Block → Run
-run_under c b = record { circuit = c; count = sample_count b; row = row_of b }
 
 -- the file may have this text, which is not longer than the limit
 abbrev pub MayHold : ℕ → File → List ℕ → Type 0
@@ -56,14 +53,10 @@ pub record HasLeft (before now : Option (List ℕ)) (text left : List ℕ) : Typ
   pub parts : text ≡ gone ++ left
   pub held : now ≡ append_known before gone
 
--- a beginning of the text came behind what was held: nothing, a part or all of it
-abbrev pub IsBegun : Option (List ℕ) → Option (List ℕ) → List ℕ → Type 0
-IsBegun before now text = (left : List ℕ) × HasLeft before now text left
-
 -- nothing came behind what was held, or a beginning of the trace of the two files
 abbrev pub IsTraceBegun : ℕ → File → File → Option (List ℕ) → Option (List ℕ) → Type 0
 IsTraceBegun limit design stimulus before now =
-    (now ≡ before) ⊎ ((c : Circuit) × (b : Block) × IsRun limit design stimulus c b × IsBegun before now (run_text (run_under c b)))
+    (now ≡ before) ⊎ ((c : Circuit) × (b : Block) × IsRun limit design stimulus c b × IsSentInPart before now (run_text (run_under c b)))
 
 -- a text of the file that is not in the form that is read
 pub record HasNoDesign (limit : ℕ) (file : File) : Type 0 where
@@ -92,8 +85,3 @@ IsFault limit design stimulus refusal.DesignTooLong = IsLonger design limit
 IsFault limit design stimulus refusal.DesignNotBuilt = HasNoDesign limit design
 IsFault limit design stimulus refusal.StimulusTooLong = HasLongStimulus limit design stimulus
 IsFault limit design stimulus refusal.StimulusNotBuilt = HasNoStimulus limit design stimulus
-
--- the block's samples have a number for each input, below 2 to its width
-pub record AreSamples (c : Circuit) (b : Block) : Type 0 where
-  pub columns : length b.columns ≡ length c.inputs
-  pub below : (k n : ℕ) (x : Net) → k < sample_count b → slice_get c.nets (slice_index c.inputs n) ≡ Some x → slice_index (row_of b k).inputs n < 2 ^ x.width

@@ -1,13 +1,14 @@
-//! The files of a trace.
+//! The files of a run.
 ghost use Rattle.std.specs.Prelude.{◌≡◌, ◌⊎◌, ℕ, ◌≤◌, Err, List, None, Some, IfOk, IsErrOf};
 ghost use Rattle.flat_design.specs.Flat.{IsFlat};
 ghost use Rattle.outside.specs.Faults.{Rose};
 ghost use Rattle.outside.specs.Shelf.{IsLonger};
-ghost use Rattle.cxxsim.specs.Trace.{AreSamples, HasNoBlock, HasNoDesign, IsDesign, IsStimulus, MayHold, design_circuit};
+ghost use Rattle.flat_run.specs.Run.{AreSamples};
+ghost use Rattle.cxxsim.specs.Trace.{HasNoBlock, HasNoDesign, IsDesign, IsFault, IsRun, IsStimulus, MayHold, design_circuit};
 ghost use Rattle.cxxsim.specs.declared.refusal.Refusal.{Refusal as TheRefusal};
 ghost use Rattle.cxxsim.specs.declared.refusal.Refusal.TheVariants as refusal;
 
-use crate::refusal::{Refusal, TraceFault};
+use crate::refusal::{LoadFault, Refusal};
 use circuit::Circuit;
 use flat_design::elaborate;
 use flat_stimulus::{FlatStimulus, read_stimulus};
@@ -23,30 +24,29 @@ fn read_text<S: Shelf>(
     name: &Name,
     limit: u64,
     too_long: Refusal,
-) -> Result<Vec<u8>, TraceFault>
+) -> Result<Vec<u8>, LoadFault>
     ensures text { IfOk result (λ bytes. MayHold limit (S.file shelf.old name.now) bytes.items) }
-    ensures too_long { (r : TheRefusal) → IsErrOf result (TraceFault.Refused r) → (r ≡ too_long) × IsLonger (S.file shelf.old name.now) limit }
-    ensures read { IsErrOf result TraceFault.Read → Rose (S.read_faults shelf.old) (S.read_faults shelf.new) }
-    ensures write { IsErrOf result TraceFault.Write → ⊥ }
+    ensures too_long { (r : TheRefusal) → IsErrOf result (LoadFault.Refused r) → (r ≡ too_long) × IsLonger (S.file shelf.old name.now) limit }
+    ensures read { IsErrOf result LoadFault.Read → Rose (S.read_faults shelf.old) (S.read_faults shelf.new) }
     ensures later { S.read_faults shelf.old ≤ S.read_faults shelf.new }
     ensures files { (other : List ℕ) → S.file shelf.new other ≡ S.file shelf.old other }
 {
     match shelf.read(alloc, name, limit) {
         Ok(bytes) => Ok(bytes),
-        Err(ShelfFault::TooLong) => Err(TraceFault::Refused(too_long)),
-        Err(ShelfFault::Failed) => Err(TraceFault::Read),
-        Err(ShelfFault::NoMemory) => Err(TraceFault::NoMemory),
+        Err(ShelfFault::TooLong) => Err(LoadFault::Refused(too_long)),
+        Err(ShelfFault::Failed) => Err(LoadFault::Read),
+        Err(ShelfFault::NoMemory) => Err(LoadFault::NoMemory),
     }
 }
 
 /// The fault of a text that was not read.
-fn fault_of(fault: FlatFault, not_built: Refusal) -> TraceFault
-    ensures not_built { fault ≡ FlatFault.NotBuilt → result ≡ TraceFault.Refused not_built }
-    ensures no_memory { fault ≡ FlatFault.NoMemory → result ≡ TraceFault.NoMemory }
+fn fault_of(fault: FlatFault, not_built: Refusal) -> LoadFault
+    ensures not_built { fault ≡ FlatFault.NotBuilt → result ≡ LoadFault.Refused not_built }
+    ensures no_memory { fault ≡ FlatFault.NoMemory → result ≡ LoadFault.NoMemory }
 {
     match fault {
-        FlatFault::NotBuilt => TraceFault::Refused(not_built),
-        FlatFault::NoMemory => TraceFault::NoMemory,
+        FlatFault::NotBuilt => LoadFault::Refused(not_built),
+        FlatFault::NoMemory => LoadFault::NoMemory,
     }
 }
 
@@ -61,17 +61,16 @@ fn circuit_of_text(alloc: Global, text: &[u8]) -> Result<Circuit, FlatFault>
 }
 
 /// The circuit of a file.
-pub fn read_design<S: Shelf>(
+fn read_design<S: Shelf>(
     alloc: Global,
     shelf: &mut S,
     name: &Name,
     limit: u64,
-) -> Result<Circuit, TraceFault>
+) -> Result<Circuit, LoadFault>
     ensures design { IfOk result (IsDesign limit (S.file shelf.old name.now)) }
     ensures flat { IfOk result IsFlat }
-    ensures refused { (r : TheRefusal) → IsErrOf result (TraceFault.Refused r) → ((r ≡ refusal.DesignTooLong) × IsLonger (S.file shelf.old name.now) limit) ⊎ ((r ≡ refusal.DesignNotBuilt) × HasNoDesign limit (S.file shelf.old name.now)) }
-    ensures read { IsErrOf result TraceFault.Read → Rose (S.read_faults shelf.old) (S.read_faults shelf.new) }
-    ensures write { IsErrOf result TraceFault.Write → ⊥ }
+    ensures refused { (r : TheRefusal) → IsErrOf result (LoadFault.Refused r) → ((r ≡ refusal.DesignTooLong) × IsLonger (S.file shelf.old name.now) limit) ⊎ ((r ≡ refusal.DesignNotBuilt) × HasNoDesign limit (S.file shelf.old name.now)) }
+    ensures read { IsErrOf result LoadFault.Read → Rose (S.read_faults shelf.old) (S.read_faults shelf.new) }
     ensures later { S.read_faults shelf.old ≤ S.read_faults shelf.new }
     ensures files { (other : List ℕ) → S.file shelf.new other ≡ S.file shelf.old other }
 {
@@ -83,19 +82,18 @@ pub fn read_design<S: Shelf>(
 }
 
 /// The samples of a file, for the circuit.
-pub fn read_samples<S: Shelf>(
+fn read_samples<S: Shelf>(
     alloc: Global,
     shelf: &mut S,
     name: &Name,
     limit: u64,
     circuit: &Circuit,
-) -> Result<FlatStimulus, TraceFault>
+) -> Result<FlatStimulus, LoadFault>
     requires { IsFlat circuit.now }
     ensures stimulus { IfOk result (IsStimulus limit (S.file shelf.old name.now) circuit.now) }
     ensures samples { IfOk result (AreSamples circuit.now) }
-    ensures refused { (r : TheRefusal) → IsErrOf result (TraceFault.Refused r) → ((r ≡ refusal.StimulusTooLong) × IsLonger (S.file shelf.old name.now) limit) ⊎ ((r ≡ refusal.StimulusNotBuilt) × HasNoBlock limit (S.file shelf.old name.now) circuit.now) }
-    ensures read { IsErrOf result TraceFault.Read → Rose (S.read_faults shelf.old) (S.read_faults shelf.new) }
-    ensures write { IsErrOf result TraceFault.Write → ⊥ }
+    ensures refused { (r : TheRefusal) → IsErrOf result (LoadFault.Refused r) → ((r ≡ refusal.StimulusTooLong) × IsLonger (S.file shelf.old name.now) limit) ⊎ ((r ≡ refusal.StimulusNotBuilt) × HasNoBlock limit (S.file shelf.old name.now) circuit.now) }
+    ensures read { IsErrOf result LoadFault.Read → Rose (S.read_faults shelf.old) (S.read_faults shelf.new) }
     ensures later { S.read_faults shelf.old ≤ S.read_faults shelf.new }
     ensures files { (other : List ℕ) → S.file shelf.new other ≡ S.file shelf.old other }
 {
@@ -104,4 +102,33 @@ pub fn read_samples<S: Shelf>(
         Ok(stimulus) => Ok(stimulus),
         Err(fault) => Err(fault_of(fault, Refusal::StimulusNotBuilt)),
     }
+}
+
+/// The circuit and the samples of a run.
+#[derive(Drop)]
+pub struct Loaded {
+    pub circuit: Circuit,
+    pub stimulus: FlatStimulus,
+}
+
+/// The circuit and the samples of the files of these names, each of at most `limit` bytes. The design's file
+/// is read first; the first cause decides.
+pub fn load<S: Shelf>(
+    alloc: Global,
+    design: &Name,
+    stimulus: &Name,
+    limit: u64,
+    shelf: &mut S,
+) -> Result<Loaded, LoadFault>
+    ensures run { IfOk result (λ l. IsRun limit (S.file shelf.old design.now) (S.file shelf.old stimulus.now) l.circuit l.stimulus) }
+    ensures flat { IfOk result (λ l. IsFlat l.circuit) }
+    ensures samples { IfOk result (λ l. AreSamples l.circuit l.stimulus) }
+    ensures refused { (r : TheRefusal) → IsErrOf result (LoadFault.Refused r) → IsFault limit (S.file shelf.old design.now) (S.file shelf.old stimulus.now) r }
+    ensures read { IsErrOf result LoadFault.Read → Rose (S.read_faults shelf.old) (S.read_faults shelf.new) }
+    ensures later { S.read_faults shelf.old ≤ S.read_faults shelf.new }
+    ensures files { (other : List ℕ) → S.file shelf.new other ≡ S.file shelf.old other }
+{
+    let circuit = read_design(alloc, shelf, design, limit)?;
+    let stimulus = read_samples(alloc, shelf, stimulus, limit, &circuit)?;
+    Ok(Loaded { circuit, stimulus })
 }

@@ -1,6 +1,6 @@
-//! Why a trace is refused, and the other causes for which one ends.
+//! Why the files of a run are refused.
 ghost use Rattle.std.specs.Prelude.{◌≡◌};
-ghost use Rattle.cxxsim.specs.declared.refusal.TraceFault.TheVariants as fault;
+ghost use Rattle.cxxsim.specs.declared.refusal.LoadFault.TheVariants as fault;
 ghost use Rattle.cxxsim.specs.Printed.{refusal_line};
 
 use sim_base::NoMemory;
@@ -32,21 +32,19 @@ impl Refusal {
     }
 }
 
-/// Why a trace was not printed whole.
+/// Why no run was loaded.
 #[derive(Clone, Copy, Debug, PartialEq, Eq)]
-pub enum TraceFault {
+pub enum LoadFault {
     /// A file could not be read.
     Read,
     Refused(Refusal),
-    /// The output failed.
-    Write,
     NoMemory,
 }
 
-impl From<NoMemory> for TraceFault {
+impl From<NoMemory> for LoadFault {
     ghost from_gives = { λ _ e. e ≡ fault.NoMemory };
 
-    fn from(_cause: NoMemory) -> TraceFault {
-        TraceFault::NoMemory
+    fn from(_cause: NoMemory) -> LoadFault {
+        LoadFault::NoMemory
     }
 }

@@ -1,9 +1,12 @@
 //! The program over files and sinks in memory.
+ghost use Rattle.std.specs.Prelude.{IfOk, IsSome};
+
+use crate::command::{Command, Mode};
 use crate::cxxsim;
-use crate::program::trace;
-use crate::refusal::TraceFault;
-use outside::{Gathered, Shelves};
-use sim_base::Name;
+use crate::outcome::Outcome;
+use crate::program::run;
+use outside::{Bytes, Gathered, Shelves};
+use sim_base::{Name, NoMemory};
 use std::alloc::{AllocError, Global};
 use std::process::Abort;
 use std::test::Fail;
@@ -163,7 +166,8 @@ fn called<R: AllocGlobal>(
     let mut log = Gathered::new(alloc)
         .taking(7)
         .failing(vec![in alloc; failing.log]?);
-    let status = cxxsim(rt, &given, &mut shelf, &mut out, &mut log);
+    let mut input = Bytes::new(alloc, Vec::new(alloc));
+    let status = cxxsim(rt, &given, &mut shelf, &mut input, &mut out, &mut log);
     Ok(Ended { status, out, log })
 }
 
@@ -367,7 +371,7 @@ fn other_words_get_the_usage_line(rt: HostRuntime) -> Result<(), Fail> {
         &["trace", "--design", "design", "--stimuli", "stimulus"],
         &["trace", "--stimulus", "stimulus", "--design", "design"],
         &["Trace", "--design", "design", "--stimulus", "stimulus"],
-        &["solo", "--design", "design", "--stimulus", "stimulus"],
+        &["serve", "--design", "design", "--stimulus", "stimulus"],
     ];
     for words in rows {
         let ended = called(&rt, words, &design, COUNTS, NONE)?;
@@ -406,6 +410,41 @@ fn calls_that_fail_are_told(rt: HostRuntime) -> Result<(), Fail> {
     Ok(())
 }
 
+/// The command `trace` on these two files.
+fn trace_command(alloc: Global) -> Result<Command, NoMemory>
+    ensures design { IfOk result (λ c. IsSome c.design) }
+    ensures stimulus { IfOk result (λ c. IsSome c.stimulus) }
+{
+    Ok(Command {
+        mode: Mode::Trace,
+        number: 0,
+        design: Some(Name::copy_of(alloc, b"design")?),
+        stimulus: Some(Name::copy_of(alloc, b"stimulus")?),
+        top: None,
+        spool: None,
+        listen: Name::copy_of(alloc, b"")?,
+        clients: 1,
+    })
+}
+
+/// Traces two files of which no more bytes than a limit are read.
+fn limited(
+    alloc: Global,
+    design: &str,
+    stimulus: &str,
+    limit: u64,
+) -> Result<(Outcome, Gathered, Gathered), Fail> {
+    let command = trace_command(alloc)?;
+    let mut shelf = shelf_of(alloc, design, stimulus, 0)?;
+    let mut input = Bytes::new(alloc, Vec::new(alloc));
+    let mut out = Gathered::new(alloc);
+    let mut log = Gathered::new(alloc);
+    let outcome = run(
+        alloc, &command, limit, &mut shelf, &mut input, &mut out, &mut log,
+    );
+    Ok((outcome, out, log))
+}
+
 #[test]
 fn files_over_the_limit_are_refused(rt: HostRuntime) -> Result<(), Fail> {
     let alloc = rt.alloc();
@@ -415,23 +454,20 @@ fn files_over_the_limit_are_refused(rt: HostRuntime) -> Result<(), Fail> {
     let design_is_long = "refused 50 FileTooLong design\n";
     let stimulus_is_long = "refused 50 FileTooLong stimulus\n";
     let rows = [
-        (design.len() - 1, Some(design_is_long), ""),
-        (design.len(), Some(stimulus_is_long), ""),
-        (stimulus.len() - 1, Some(stimulus_is_long), ""),
-        (stimulus.len(), None, traced),
+        (design.len() - 1, design_is_long, ""),
+        (design.len(), stimulus_is_long, ""),
+        (stimulus.len() - 1, stimulus_is_long, ""),
+        (stimulus.len(), "", traced),
     ];
     for (limit, line, text) in rows {
-        let mut shelf = shelf_of(alloc, design, stimulus, 0)?;
-        let mut out = Gathered::new(alloc);
-        let limit = limit as u64;
-        let ended = trace(alloc, "design", "stimulus", limit, &mut shelf, &mut out);
-        let refused = match &ended {
-            Err(TraceFault::Refused(refusal)) => Some(refusal.line()),
-            _ => None,
-        };
-        assert!(rt; refused == line.map(|line| line.as_bytes()), "{limit}");
+        let (outcome, out, log) = limited(alloc, design, stimulus, limit as u64)?;
+        assert_eq!(rt;
+            outcome.status(),
+            if line.is_empty() { 0 } else { 4 },
+            "{limit}"
+        );
         assert!(rt; out.bytes() == text.as_bytes(), "{limit}");
-        assert_eq!(rt; ended.is_ok(), line.is_none());
+        assert!(rt; log.bytes() == line.as_bytes(), "{limit}");
     }
     Ok(())
 }

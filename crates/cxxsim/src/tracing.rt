@@ -6,17 +6,35 @@ ghost use Rattle.flat_design.specs.Flat.{IsFlat};
 ghost use Rattle.flat_rounds.specs.Fits.{AreInputs, IsStandingOf};
 ghost use Rattle.flat_stimulus.specs.Block.{row_of, sample_count};
 ghost use Rattle.outside.specs.Faults.{Rose};
-ghost use Rattle.cxxsim.specs.Trace.{AreSamples, HasLeft, IsBegun, run_under};
+ghost use Rattle.flat_run.specs.Run.{AreSamples, run_under};
+ghost use Rattle.solo_session.specs.Solo.{IsSentInPart};
+ghost use Rattle.cxxsim.specs.Trace.{HasLeft};
+ghost use Rattle.cxxsim.specs.declared.tracing.TraceFault.TheVariants as fault;
 ghost use Rattle.cxxsim.specs.TraceText.{header, run_text, sample_line, sample_lines};
 
 use crate::print::{push_header, push_last_line, push_sample};
-use crate::refusal::TraceFault;
 use circuit::{Circuit, length_of_run};
 use flat_rounds::Rounds;
 use flat_stimulus::FlatStimulus;
 use outside::{Sink, put_all};
 use sim_base::NoMemory;
 use std::alloc::Global;
+
+/// Why a trace was not printed whole.
+#[derive(Clone, Copy, Debug, PartialEq, Eq)]
+pub enum TraceFault {
+    /// The output failed.
+    Write,
+    NoMemory,
+}
+
+impl From<NoMemory> for TraceFault {
+    ghost from_gives = { λ _ e. e ≡ fault.NoMemory };
+
+    fn from(_cause: NoMemory) -> TraceFault {
+        TraceFault::NoMemory
+    }
+}
 
 /// How many bytes are gathered before they are handed to the output.
 const ENOUGH: usize = 65_536;
@@ -53,7 +71,7 @@ fn trace_sample(
 /// Hands the text to the output.
 fn flush<O: Sink>(text: &mut Vec<u8>, out: &mut O) -> Result<(), TraceFault>
     ensures ok { IfOk result (λ _. (O.held out.new ≡ append_known (O.held out.old) text.old.items) × (text.new.items ≡ [])) }
-    ensures begun { IsBegun (O.held out.old) (O.held out.new) text.old.items }
+    ensures begun { IsSentInPart (O.held out.old) (O.held out.new) text.old.items }
     ensures write { IsErrOf result TraceFault.Write → Rose (O.faults out.old) (O.faults out.new) }
     ensures only { IsErr result → IsErrOf result TraceFault.Write }
     ensures later { O.faults out.old ≤ O.faults out.new }
@@ -70,7 +88,7 @@ fn flush<O: Sink>(text: &mut Vec<u8>, out: &mut O) -> Result<(), TraceFault>
 /// Hands the text to the output where it is long enough.
 fn flush_long<O: Sink>(text: &mut Vec<u8>, out: &mut O) -> Result<(), TraceFault>
     ensures ok { IfOk result (λ _. HasLeft (O.held out.old) (O.held out.new) text.old.items text.new.items) }
-    ensures begun { IsBegun (O.held out.old) (O.held out.new) text.old.items }
+    ensures begun { IsSentInPart (O.held out.old) (O.held out.new) text.old.items }
     ensures write { IsErrOf result TraceFault.Write → Rose (O.faults out.old) (O.faults out.new) }
     ensures only { IsErr result → IsErrOf result TraceFault.Write }
     ensures later { O.faults out.old ≤ O.faults out.new }
@@ -107,7 +125,7 @@ fn write_samples<O: Sink>(
     requires text { text.old.items ≡ header circuit.now }
     ensures length { IfOk result (λ done. done ≡ run_length (run_under circuit.now stimulus.now)) }
     ensures left { IfOk result (λ done. HasLeft (O.held out.old) (O.held out.new) (header circuit.now ++ sample_lines (run_under circuit.now stimulus.now) done) text.new.items) }
-    ensures begun { IsErr result → IsBegun (O.held out.old) (O.held out.new) (run_text (run_under circuit.now stimulus.now)) }
+    ensures begun { IsErr result → IsSentInPart (O.held out.old) (O.held out.new) (run_text (run_under circuit.now stimulus.now)) }
     ensures write { IsErrOf result TraceFault.Write → Rose (O.faults out.old) (O.faults out.new) }
     ensures only { IsErr result → IsErrOf result TraceFault.Write ⊎ IsErrOf result TraceFault.NoMemory }
     ensures later { O.faults out.old ≤ O.faults out.new }
@@ -136,7 +154,7 @@ pub fn write_trace<O: Sink>(
     requires samples { AreSamples circuit.now stimulus.now }
     ensures ends { IfOk result (λ unsettled. unsettled ≡ nat_lt (run_length (run_under circuit.now stimulus.now)) (sample_count stimulus.now)) }
     ensures printed { IfOk result (λ _. O.held out.new ≡ append_known (O.held out.old) (run_text (run_under circuit.now stimulus.now))) }
-    ensures begun { IsBegun (O.held out.old) (O.held out.new) (run_text (run_under circuit.now stimulus.now)) }
+    ensures begun { IsSentInPart (O.held out.old) (O.held out.new) (run_text (run_under circuit.now stimulus.now)) }
     ensures write { IsErrOf result TraceFault.Write → Rose (O.faults out.old) (O.faults out.new) }
     ensures only { IsErr result → IsErrOf result TraceFault.Write ⊎ IsErrOf result TraceFault.NoMemory }
     ensures later { O.faults out.old ≤ O.faults out.new }

@@ -197,3 +197,10 @@ opened run some = record {
     said = opened_said (run_of run);
   };
 }
+
+-- a session of a run of which sample 0 settles, with the beginning of a history
+pub opened_as : (s : Served) (run : Sampled) → s.run ≡ run → s.history ≡ opening → s.greeted ≡ false → 1 ≤ run_length (run_of run) → HasServed [] s []
+opened_as s run same_run is plain some =
+    subst (λ (r : Sampled). HasServed [] (record { run = r; history = s.history; greeted = s.greeted }) []) (sym same_run)
+    (subst (λ (h : List Entry). HasServed [] (record { run = run; history = h; greeted = s.greeted }) []) (sym is)
+    (subst (λ (b : Bool). HasServed [] (record { run = run; history = opening; greeted = b }) []) (sym plain) (opened run some)))

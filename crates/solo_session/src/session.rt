@@ -85,6 +85,7 @@ impl Session {
     /// whether the client is.
     pub fn open(&mut self) -> Result<bool, NoMemory>
         requires { self.old.history ≡ [] }
+        ensures opened { result ≡ Ok true → self.old.greeted ≡ false → HasServed [] self.new [] }
         ensures served { result ≡ Ok true → (1 ≤ run_length (run_of self.old.run)) × (self.new ≡ record self.old { history = paces.opening }) }
         ensures unsettled { result ≡ Ok false → (run_length (run_of self.old.run) ≡ 0) × (self.new ≡ record self.old { history = entries.Unsettled ∷ entries.End ∷ [] }) }
     {

@@ -1,6 +1,6 @@
 use Rattle.std.proofs.Common.{◌≡◌, None, Some, suc, refl, sym}
 use Rattle.circuit.specs.Run.{standing_after}
-use Rattle.cxxsim.specs.Trace.{run_under}
+use Rattle.flat_run.specs.Run.{run_under}
 use Rattle.cxxsim.proofs.Steps.{goes_on}
 use Rattle.cxxsim.proofs.tracing.trace_sample.Goals as goal
 

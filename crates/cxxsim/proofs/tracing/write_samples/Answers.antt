@@ -1,9 +1,9 @@
 use Rattle.std.proofs.Common.{◌+◌, ◌++◌, ◌∙◌, ap, arith, Ok, sym, add-one}
 use Rattle.std.specs.Prelude.{is_some}
 use Rattle.circuit.specs.Run.{standing_after}
-use Rattle.cxxsim.specs.Trace.{run_under}
+use Rattle.flat_run.specs.Run.{run_under}
 use Rattle.cxxsim.specs.TraceText.{header, sample_lines}
-use Rattle.cxxsim.proofs.Begun.{begun_then, left_whole}
+use Rattle.cxxsim.proofs.Begun.{begun, begun_then, left_whole}
 use Rattle.cxxsim.proofs.Printing.{begun_here, line_more, no_lines_more, printed_more, stands_first}
 use Rattle.cxxsim.proofs.tracing.write_samples.Goals as goal
 
@@ -20,7 +20,7 @@ loop-done-init g c = record {
 pub returns-in_err-trace_sample-clause-begun : goal.returns-in_err-trace_sample-clause-begun
 returns-in_err-trace_sample-clause-begun g c is =
     begun_here (run_under c.args.circuit.now c.args.stimulus.now) c.loop-done.done (g.O.Sink.held c.args.out.now) (g.O.Sink.held c.loop-done.out)
-    (omega (arith, c.loop-done.invariant.within, c.count-count.ensures.value)) (ap is_some c.loop-done.invariant.stands) (c.loop-done.text.items, c.loop-done.invariant.printed)
+    (omega (arith, c.loop-done.invariant.within, c.count-count.ensures.value)) (ap is_some c.loop-done.invariant.stands) (begun (g.O.Sink.held c.args.out.now) (g.O.Sink.held c.loop-done.out) (header c.args.circuit.now ++ sample_lines (run_under c.args.circuit.now c.args.stimulus.now) c.loop-done.done) c.loop-done.text.items c.loop-done.invariant.printed)
 
 pub loop-done-preserved : goal.loop-done-preserved
 loop-done-preserved g c =

@@ -1,7 +1,8 @@
 use Rattle.std.proofs.Common.{◌≡◌, ◌++◌, ◌≤◌, ◌-◌, Some, length}
 use Rattle.circuit.specs.Run.{standing_after}
 use Rattle.flat_rounds.specs.Fits.{IsStandingOf}
-use Rattle.cxxsim.specs.Trace.{HasLeft, run_under}
+use Rattle.flat_run.specs.Run.{run_under}
+use Rattle.cxxsim.specs.Trace.{HasLeft}
 use Rattle.cxxsim.specs.TraceText.{header, sample_lines}
 use Rattle.cxxsim.proofs.tracing.write_samples.Given as goal
 

@@ -1,25 +1,24 @@
 use Rattle.std.proofs.Common.{◌++◌, refl, sym}
 use Rattle.std.specs.Prelude.{nat_lt}
-use Rattle.cxxsim.specs.Trace.{run_under}
+use Rattle.flat_run.specs.Run.{run_under}
 use Rattle.cxxsim.specs.TraceText.{last_line, run_text}
-use Rattle.cxxsim.proofs.Begun.{all_gone, begun_then, left_whole}
+use Rattle.cxxsim.proofs.Begun.{all_gone, begun, begun_then, left_whole}
 use Rattle.cxxsim.proofs.Printing.{printed_last}
 use Rattle.cxxsim.proofs.tracing.write_trace.Goals as goal
 
 pub returns-in_err-rounds-clause-begun : goal.returns-in_err-rounds-clause-begun
-returns-in_err-rounds-clause-begun g c = (run_text (run_under c.args.circuit.now c.args.stimulus.now), left_whole (g.O.Sink.held c.args.out.now) (run_text (run_under c.args.circuit.now c.args.stimulus.now)) (run_text (run_under c.args.circuit.now c.args.stimulus.now)) refl)
+returns-in_err-rounds-clause-begun g c = begun (g.O.Sink.held c.args.out.now) (g.O.Sink.held c.args.out.now) (run_text (run_under c.args.circuit.now c.args.stimulus.now)) (run_text (run_under c.args.circuit.now c.args.stimulus.now)) (left_whole (g.O.Sink.held c.args.out.now) (run_text (run_under c.args.circuit.now c.args.stimulus.now)) (run_text (run_under c.args.circuit.now c.args.stimulus.now)) refl)
 
 pub returns-in_err-inputs-clause-begun : goal.returns-in_err-inputs-clause-begun
-returns-in_err-inputs-clause-begun g c = (run_text (run_under c.args.circuit.now c.args.stimulus.now), left_whole (g.O.Sink.held c.args.out.now) (run_text (run_under c.args.circuit.now c.args.stimulus.now)) (run_text (run_under c.args.circuit.now c.args.stimulus.now)) refl)
+returns-in_err-inputs-clause-begun g c = begun (g.O.Sink.held c.args.out.now) (g.O.Sink.held c.args.out.now) (run_text (run_under c.args.circuit.now c.args.stimulus.now)) (run_text (run_under c.args.circuit.now c.args.stimulus.now)) (left_whole (g.O.Sink.held c.args.out.now) (run_text (run_under c.args.circuit.now c.args.stimulus.now)) (run_text (run_under c.args.circuit.now c.args.stimulus.now)) refl)
 
 pub returns-in_err-push_header-clause-begun : goal.returns-in_err-push_header-clause-begun
-returns-in_err-push_header-clause-begun g c = (run_text (run_under c.args.circuit.now c.args.stimulus.now), left_whole (g.O.Sink.held c.args.out.now) (run_text (run_under c.args.circuit.now c.args.stimulus.now)) (run_text (run_under c.args.circuit.now c.args.stimulus.now)) refl)
+returns-in_err-push_header-clause-begun g c = begun (g.O.Sink.held c.args.out.now) (g.O.Sink.held c.args.out.now) (run_text (run_under c.args.circuit.now c.args.stimulus.now)) (run_text (run_under c.args.circuit.now c.args.stimulus.now)) (left_whole (g.O.Sink.held c.args.out.now) (run_text (run_under c.args.circuit.now c.args.stimulus.now)) (run_text (run_under c.args.circuit.now c.args.stimulus.now)) refl)
 
 pub returns-in_err-push_last_line-clause-begun : goal.returns-in_err-push_last_line-clause-begun
-returns-in_err-push_last_line-clause-begun g c = (
-  c.write_samples.new.text.items ++ (last_line (nat_lt c.in_ok-done.done c.count.result) c.in_ok-done.done),
-  printed_last (run_under c.args.circuit.now c.args.stimulus.now) c.in_ok-done.done c.count.result (g.O.Sink.held c.args.out.now) (g.O.Sink.held c.write_samples.new.out) c.write_samples.new.text.items (c.write_samples.new.text.items ++ (last_line (nat_lt c.in_ok-done.done c.count.result) c.in_ok-done.done)) c.in_ok-done.ensures.left refl c.count.ensures.value (sym c.in_ok-done.ensures.length),
-)
+returns-in_err-push_last_line-clause-begun g c =
+    begun (g.O.Sink.held c.args.out.now) (g.O.Sink.held c.write_samples.new.out) (run_text (run_under c.args.circuit.now c.args.stimulus.now)) (c.write_samples.new.text.items ++ (last_line (nat_lt c.in_ok-done.done c.count.result) c.in_ok-done.done))
+    (printed_last (run_under c.args.circuit.now c.args.stimulus.now) c.in_ok-done.done c.count.result (g.O.Sink.held c.args.out.now) (g.O.Sink.held c.write_samples.new.out) c.write_samples.new.text.items (c.write_samples.new.text.items ++ (last_line (nat_lt c.in_ok-done.done c.count.result) c.in_ok-done.done)) c.in_ok-done.ensures.left refl c.count.ensures.value (sym c.in_ok-done.ensures.length))
 
 pub returns-in_err-flush-clause-begun : goal.returns-in_err-flush-clause-begun
 returns-in_err-flush-clause-begun g c =

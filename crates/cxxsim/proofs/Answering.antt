@@ -1,0 +1,276 @@
+-- What a call leaves is what its status says.
+use Rattle.std.proofs.Common.{◌≡◌, ℕ, List, [], ◌∷◌, Bool, true, false, Option, Some, None, refl, sym, ◌∙◌, ap, subst, arith, inl, inr, ◌<◌, ◌≤◌, length}
+use Rattle.std.specs.Prelude.{option_and_then}
+use Rattle.circuit.specs.declared.netlist.Circuit.{Circuit}
+use Rattle.flat_stimulus.specs.Block.{Block}
+use Rattle.flat_stimulus.specs.Text.{block_of}
+use Rattle.outside.specs.Shelf.{File, Holds, IsLonger, IsOf, IsTold, Missing, Untold}
+use Rattle.solo_session.specs.declared.solo.Ending.{Ending}
+use Rattle.solo_session.specs.declared.solo.Ending.TheVariants as ending
+use Rattle.cxxsim.specs.Answers.{IsAnswered, IsClosed, IsDoneBy, IsFaultOf, IsLimitedBy, IsMisused, IsRefused, IsUnreadBy, IsUntraced, IsUnwrittenBy, IsWantingBy, HasEnded, Task, task}
+use Rattle.cxxsim.specs.Outcome.{Went, WentBy, ended_status, status_of}
+use Rattle.cxxsim.specs.Outside.{Outside}
+use Rattle.cxxsim.specs.Trace.{HasLongStimulus, HasNoDesign, HasNoStimulus, IsFault, IsRun, design_circuit}
+use Rattle.cxxsim.specs.declared.command.Command.{Command}
+use Rattle.cxxsim.specs.declared.command.Mode.{Mode}
+use Rattle.cxxsim.specs.declared.command.Mode.TheVariants as mode
+use Rattle.cxxsim.specs.declared.outcome.Outcome.{Outcome}
+use Rattle.cxxsim.specs.declared.outcome.Outcome.TheVariants as outcome
+use Rattle.cxxsim.specs.declared.refusal.Refusal.{Refusal}
+use Rattle.cxxsim.specs.declared.refusal.Refusal.TheVariants as refusal
+use Rattle.cxxsim.specs.declared.session.Closed.{Closed}
+
+-- ---- files that have a run have no fault
+
+-- a file that is told has one text
+one_text : (f : File) (a b : List ℕ) → IsTold f → IsOf f a → IsOf f b → a ≡ b
+one_text Untold a b told p q = absurd told
+one_text Missing a b told p q = absurd p
+one_text (Holds held) a b told p q = p ∙ sym q
+
+within_limit : (f : File) (a : List ℕ) (limit : ℕ) → IsTold f → IsOf f a → length a ≤ limit → IsLonger f limit → ⊥
+within_limit Untold a limit told p le longer = absurd told
+within_limit Missing a limit told p le longer = absurd p
+within_limit (Holds held) a limit told p le longer = omega (arith, ap length p, le, longer)
+
+some_none : {X : Type 0} (x : X) (o : Option X) → o ≡ Some x → o ≡ None → ⊥
+some_none x o p q = absurd (apart (sym p ∙ q))
+  where
+    apart : Some x ≡ None → ⊥
+    apart e = cc
+
+one_some : {X : Type 0} (x y : X) (o : Option X) → o ≡ Some x → o ≡ Some y → x ≡ y
+one_some x y o p q = cc
+
+one_circuit : (limit : ℕ) (f : File) (c d : Circuit) (a b : List ℕ) → IsTold f → IsOf f a → IsOf f b → design_circuit a ≡ Some c → design_circuit b ≡ Some d → c ≡ d
+one_circuit limit f c d a b told p q here there = one_some c d (design_circuit a) here (ap design_circuit (one_text f a b told p q) ∙ there)
+
+no_fault : (limit : ℕ) (design stimulus : File) (c : Circuit) (b : Block) (r : Refusal) → IsTold design → IsTold stimulus → IsRun limit design stimulus c b → IsFault limit design stimulus r → ⊥
+no_fault limit d s c b refusal.DesignTooLong told_d told_s run fault = within_limit d run.circuit.text limit told_d run.circuit.held.0 run.circuit.held.1 fault
+no_fault limit d s c b refusal.DesignNotBuilt told_d told_s run fault =
+    some_none c (design_circuit run.circuit.text) run.circuit.read (ap design_circuit (one_text d run.circuit.text fault.text told_d run.circuit.held.0 fault.held.0) ∙ fault.unread)
+no_fault limit d s c b refusal.StimulusTooLong told_d told_s run fault = within_limit s run.block.text limit told_s run.block.held.0 run.block.held.1 fault.longer
+no_fault limit d s c b refusal.StimulusNotBuilt told_d told_s run fault =
+    let same : c ≡ fault.circuit = one_circuit limit d c fault.circuit run.circuit.text fault.is_design.text told_d run.circuit.held.0 fault.is_design.held.0 run.circuit.read fault.is_design.read in
+    let texts : run.block.text ≡ fault.unread.text = one_text s run.block.text fault.unread.text told_s run.block.held.0 fault.unread.held.0 in
+    some_none b (block_of run.block.text c) run.block.read (ap (λ t. block_of t c) texts ∙ ap (block_of fault.unread.text) same ∙ fault.unread.unread)
+
+-- ---- by the status
+
+-- a file that has a fault is not followed
+abbrev Unfaulty : ℕ → Outside → Command → Type 0
+Unfaulty limit w c = IsTold (task limit w c).design → IsTold (task limit w c).stimulus → (r : Refusal) → IsFaultOf (task limit w c) r → ⊥
+
+some_is : {X : Type 0} (x y : X) → Some x ≡ Some y → x ≡ y
+some_is x y e = cc
+
+none_some : {X : Type 0} (x : X) → Some x ≡ None → ⊥
+none_some x e = cc
+
+-- the fault of another command is that of this one
+unfaulty_of : (limit : ℕ) (w : Outside) (c d : Command) → Unfaulty limit w c → Some c ≡ Some d → Unfaulty limit w d
+unfaulty_of limit w c d un e = subst (λ (z : Command). Unfaulty limit w z) (some_is c d e) un
+
+done_whole : (limit : ℕ) (w : Outside) (c : Command) → IsDoneBy (task limit w c) false c.mode → Unfaulty limit w c → IsAnswered limit (Some c) w 0
+done_whole limit w c is un = record {
+  known = refl;
+  done = λ e. is;
+  unsettled = λ e. absurd (omega (arith, e));
+  usage = λ e. absurd (omega (arith, e));
+  usage_comes = λ e. absurd (none_some c e);
+  unread = λ e. absurd (omega (arith, e));
+  refused = λ e. absurd (omega (arith, e));
+  refusal_comes = λ d e td ts r f. absurd (unfaulty_of limit w c d un e td ts r f);
+  unwritten = λ e. absurd (omega (arith, e));
+  wanting = λ e. absurd (omega (arith, e));
+  limited = λ e. absurd (omega (arith, e));
+}
+
+done_short : (limit : ℕ) (w : Outside) (c : Command) → IsDoneBy (task limit w c) true c.mode → Unfaulty limit w c → IsAnswered limit (Some c) w 6
+done_short limit w c is un = record {
+  known = refl;
+  done = λ e. absurd (omega (arith, e));
+  unsettled = λ e. is;
+  usage = λ e. absurd (omega (arith, e));
+  usage_comes = λ e. absurd (none_some c e);
+  unread = λ e. absurd (omega (arith, e));
+  refused = λ e. absurd (omega (arith, e));
+  refusal_comes = λ d e td ts r f. absurd (unfaulty_of limit w c d un e td ts r f);
+  unwritten = λ e. absurd (omega (arith, e));
+  wanting = λ e. absurd (omega (arith, e));
+  limited = λ e. absurd (omega (arith, e));
+}
+
+misused : (limit : ℕ) (w : Outside) → IsMisused None w true → IsAnswered limit None w 2
+misused limit w is = record {
+  known = refl;
+  done = λ e. absurd (omega (arith, e));
+  unsettled = λ e. absurd (omega (arith, e));
+  usage = λ e. is;
+  usage_comes = λ e. inl refl;
+  unread = λ e. absurd (omega (arith, e));
+  refused = λ e. absurd (omega (arith, e));
+  refusal_comes = λ d e td ts r f. absurd (none_some d (sym e));
+  unwritten = λ e. absurd (omega (arith, e));
+  wanting = λ e. absurd (omega (arith, e));
+  limited = λ e. absurd (omega (arith, e));
+}
+
+misused_unlogged : (limit : ℕ) (w : Outside) → IsMisused None w false → IsAnswered limit None w 5
+misused_unlogged limit w is = record {
+  known = refl;
+  done = λ e. absurd (omega (arith, e));
+  unsettled = λ e. absurd (omega (arith, e));
+  usage = λ e. absurd (omega (arith, e));
+  usage_comes = λ e. inr (refl, is);
+  unread = λ e. absurd (omega (arith, e));
+  refused = λ e. absurd (omega (arith, e));
+  refusal_comes = λ d e td ts r f. absurd (none_some d (sym e));
+  unwritten = λ e. inl is;
+  wanting = λ e. absurd (omega (arith, e));
+  limited = λ e. absurd (omega (arith, e));
+}
+
+unread : (limit : ℕ) (w : Outside) (c : Command) → IsUnreadBy (task limit w c) c.mode → IsAnswered limit (Some c) w 3
+unread limit w c is = record {
+  known = refl;
+  done = λ e. absurd (omega (arith, e));
+  unsettled = λ e. absurd (omega (arith, e));
+  usage = λ e. absurd (omega (arith, e));
+  usage_comes = λ e. absurd (none_some c e);
+  unread = λ e. is;
+  refused = λ e. absurd (omega (arith, e));
+  refusal_comes = λ d e td ts r f. inr (inl refl);
+  unwritten = λ e. absurd (omega (arith, e));
+  wanting = λ e. absurd (omega (arith, e));
+  limited = λ e. absurd (omega (arith, e));
+}
+
+refused : (limit : ℕ) (w : Outside) (c : Command) → IsRefused (task limit w c) true → IsAnswered limit (Some c) w 4
+refused limit w c is = record {
+  known = refl;
+  done = λ e. absurd (omega (arith, e));
+  unsettled = λ e. absurd (omega (arith, e));
+  usage = λ e. absurd (omega (arith, e));
+  usage_comes = λ e. absurd (none_some c e);
+  unread = λ e. absurd (omega (arith, e));
+  refused = λ e. is;
+  refusal_comes = λ d e td ts r f. inl refl;
+  unwritten = λ e. absurd (omega (arith, e));
+  wanting = λ e. absurd (omega (arith, e));
+  limited = λ e. absurd (omega (arith, e));
+}
+
+refused_unlogged : (limit : ℕ) (w : Outside) (c : Command) → IsRefused (task limit w c) false → IsAnswered limit (Some c) w 5
+refused_unlogged limit w c is = record {
+  known = refl;
+  done = λ e. absurd (omega (arith, e));
+  unsettled = λ e. absurd (omega (arith, e));
+  usage = λ e. absurd (omega (arith, e));
+  usage_comes = λ e. absurd (none_some c e);
+  unread = λ e. absurd (omega (arith, e));
+  refused = λ e. absurd (omega (arith, e));
+  refusal_comes = λ d e td ts r f. inr (inr (inl (refl, subst (λ (z : Command). IsRefused (task limit w z) false) (some_is c d e) is)));
+  unwritten = λ e. inr (inl is);
+  wanting = λ e. absurd (omega (arith, e));
+  limited = λ e. absurd (omega (arith, e));
+}
+
+unwritten : (limit : ℕ) (w : Outside) (c : Command) → IsUnwrittenBy (task limit w c) c.mode → Unfaulty limit w c → IsAnswered limit (Some c) w 5
+unwritten limit w c is un = record {
+  known = refl;
+  done = λ e. absurd (omega (arith, e));
+  unsettled = λ e. absurd (omega (arith, e));
+  usage = λ e. absurd (omega (arith, e));
+  usage_comes = λ e. absurd (none_some c e);
+  unread = λ e. absurd (omega (arith, e));
+  refused = λ e. absurd (omega (arith, e));
+  refusal_comes = λ d e td ts r f. absurd (unfaulty_of limit w c d un e td ts r f);
+  unwritten = λ e. inr (inr is);
+  wanting = λ e. absurd (omega (arith, e));
+  limited = λ e. absurd (omega (arith, e));
+}
+
+wanting : (limit : ℕ) (w : Outside) (c : Command) → IsWantingBy (task limit w c) c.mode → IsAnswered limit (Some c) w 8
+wanting limit w c is = record {
+  known = refl;
+  done = λ e. absurd (omega (arith, e));
+  unsettled = λ e. absurd (omega (arith, e));
+  usage = λ e. absurd (omega (arith, e));
+  usage_comes = λ e. absurd (none_some c e);
+  unread = λ e. absurd (omega (arith, e));
+  refused = λ e. absurd (omega (arith, e));
+  refusal_comes = λ d e td ts r f. inr (inr (inr refl));
+  unwritten = λ e. absurd (omega (arith, e));
+  wanting = λ e. is;
+  limited = λ e. absurd (omega (arith, e));
+}
+
+limited : (limit : ℕ) (w : Outside) (c : Command) → IsLimitedBy (task limit w c) c.mode → Unfaulty limit w c → IsAnswered limit (Some c) w 9
+limited limit w c is un = record {
+  known = refl;
+  done = λ e. absurd (omega (arith, e));
+  unsettled = λ e. absurd (omega (arith, e));
+  usage = λ e. absurd (omega (arith, e));
+  usage_comes = λ e. absurd (none_some c e);
+  unread = λ e. absurd (omega (arith, e));
+  refused = λ e. absurd (omega (arith, e));
+  refusal_comes = λ d e td ts r f. absurd (unfaulty_of limit w c d un e td ts r f);
+  unwritten = λ e. absurd (omega (arith, e));
+  wanting = λ e. absurd (omega (arith, e));
+  limited = λ e. is;
+}
+
+-- ---- all ways in which a call ends
+
+unfaulty_run : (limit : ℕ) (w : Outside) (cmd : Command) (c : Circuit) (b : Block) → IsRun limit (task limit w cmd).design (task limit w cmd).stimulus c b → Unfaulty limit w cmd
+unfaulty_run limit w cmd c b run td ts r f = no_fault limit (task limit w cmd).design (task limit w cmd).stimulus c b r td ts run f
+
+-- what holds in a mode holds in that of the command
+in_mode : (P : Mode → Type 0) (m n : Mode) → m ≡ n → P n → P m
+in_mode P m n e p = subst (λ (z : Mode). P z) (sym e) p
+
+closed_answers : (limit : ℕ) (w : Outside) (c : Command) → c.mode ≡ mode.Solo → (ends : Ending) (unsettled logged : Bool)
+    → IsClosed (task limit w c) (record { ending = ends; unsettled = unsettled; logged = logged }) → IsAnswered limit (Some c) w (ended_status ends unsettled logged)
+closed_answers limit w c m ending.Served false true is =
+    done_whole limit w c (in_mode (IsDoneBy (task limit w c) false) c.mode mode.Solo m is) (unfaulty_run limit w c is.circuit is.block is.is_run)
+closed_answers limit w c m ending.Served true true is =
+    done_short limit w c (in_mode (IsDoneBy (task limit w c) true) c.mode mode.Solo m is) (unfaulty_run limit w c is.circuit is.block is.is_run)
+closed_answers limit w c m ending.Served unsettled false is =
+    unwritten limit w c (in_mode (IsUnwrittenBy (task limit w c)) c.mode mode.Solo m (inr (unsettled, is))) (unfaulty_run limit w c is.circuit is.block is.is_run)
+closed_answers limit w c m ending.Limit unsettled logged is =
+    limited limit w c (in_mode (IsLimitedBy (task limit w c)) c.mode mode.Solo m (unsettled, logged, is)) (unfaulty_run limit w c is.circuit is.block is.is_run)
+closed_answers limit w c m ending.InputFailed unsettled logged is =
+    unread limit w c (in_mode (IsUnreadBy (task limit w c)) c.mode mode.Solo m (inr (unsettled, logged, is)))
+closed_answers limit w c m ending.OutputFailed unsettled logged is =
+    unwritten limit w c (in_mode (IsUnwrittenBy (task limit w c)) c.mode mode.Solo m (inl (unsettled, logged, is))) (unfaulty_run limit w c is.circuit is.block is.is_run)
+
+unread_by : (t : Task) (m : Mode) → WentBy t m outcome.Unread → IsUnreadBy t m
+unread_by t mode.Trace is = is
+unread_by t mode.Solo is = inl is
+
+pub answers_by : (limit : ℕ) (w : Outside) (c : Command) (o : Outcome) → WentBy (task limit w c) c.mode o → IsAnswered limit (Some c) w (status_of o)
+answers_by limit w c (outcome.Misused logged) is = absurd is
+answers_by limit w c outcome.Unread is = unread limit w c (unread_by (task limit w c) c.mode is)
+answers_by limit w c (outcome.Refused r true) is = refused limit w c (r, is.0, is.1, is.2, is.3)
+answers_by limit w c (outcome.Refused r false) is = refused_unlogged limit w c (r, is.0, is.1, is.2, is.3)
+answers_by limit w c (outcome.Traced false) (m, is) =
+    done_whole limit w c (in_mode (IsDoneBy (task limit w c) false) c.mode mode.Trace m is) (unfaulty_run limit w c is.0.circuit is.0.block is.0.is_run)
+answers_by limit w c (outcome.Traced true) (m, is) =
+    done_short limit w c (in_mode (IsDoneBy (task limit w c) true) c.mode mode.Trace m is) (unfaulty_run limit w c is.0.circuit is.0.block is.0.is_run)
+answers_by limit w c outcome.Untraced (m, is) =
+    unwritten limit w c (in_mode (IsUnwrittenBy (task limit w c)) c.mode mode.Trace m is) (unfaulty_run limit w c is.run.0 is.run.1 is.run.2)
+answers_by limit w c (outcome.Closed k) (m, is) = closed_answers limit w c m k.ending k.unsettled k.logged is
+answers_by limit w c outcome.NoMemory is = wanting limit w c is
+
+-- a call answers what it left
+pub answers : (limit : ℕ) (asked : Option Command) (w : Outside) (o : Outcome) → Went limit asked w o → IsAnswered limit asked w (status_of o)
+answers limit None w (outcome.Misused true) is = misused limit w is
+answers limit None w (outcome.Misused false) is = misused_unlogged limit w is
+answers limit None w outcome.Unread is = absurd is
+answers limit None w (outcome.Refused r logged) is = absurd is
+answers limit None w (outcome.Traced unsettled) is = absurd is
+answers limit None w outcome.Untraced is = absurd is
+answers limit None w (outcome.Closed k) is = absurd is
+answers limit None w outcome.NoMemory is = absurd is
+answers limit (Some c) w o is = answers_by limit w c o is

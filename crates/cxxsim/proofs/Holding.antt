@@ -1,0 +1,49 @@
+-- What a session leaves whose client was served, or nobody.
+use Rattle.std.proofs.Common.{◌≡◌, ℕ, ◌≤◌, ◌<◌, List, [], ◌∷◌, ◌++◌, Bool, true, false, Option, refl, sym, ◌∙◌, ap, subst, arith, inl, inr}
+use Rattle.circuit.specs.Run.{run_length}
+use Rattle.flat_run.specs.Run.{Sampled, run_of}
+use Rattle.hall_core.specs.Facts.{facts_of}
+use Rattle.hall_core.specs.Laws.{Taken, none, one_more}
+use Rattle.hall_core.specs.Legal.{Legal, RunFacts}
+use Rattle.hall_core.specs.declared.entry.Entry.{Entry}
+use Rattle.hall_core.specs.declared.entry.Entry.TheVariants as entry
+use Rattle.hall_core.proofs.Histories.{legal_taken}
+use Rattle.solo_session.specs.Solo.{IsCause, IsEnded, Start}
+use Rattle.solo_session.specs.declared.solo.Ending.{Ending}
+use Rattle.solo_session.specs.declared.solo.Ending.TheVariants as ending
+use Rattle.cxxsim.specs.Outside.{Told}
+use Rattle.cxxsim.specs.Solo.{IsHeld}
+
+ended_legal : (start : Start) (left held : Option (List ℕ)) (history : List Entry) (ends : Ending) → IsEnded start left held history ends → Legal (facts_of (run_of start.run)) history
+ended_legal start left held history ending.Served is = is.session.legal
+ended_legal start left held history ending.Limit is = is.session.legal
+ended_legal start left held history ending.InputFailed is = is.session.legal
+ended_legal start left held history ending.OutputFailed is = is.session.legal
+
+pub served_is_held : (run : Sampled) (input out : Told) (history : List Entry) (ends : Ending) → 1 ≤ run_length (run_of run)
+    → IsEnded (record { run = run; left = input.before; held = out.before }) input.now out.now history ends → IsCause ends input.faults input.faults_now out.faults out.faults_now
+    → IsHeld run input out history ends
+served_is_held run input out history ends settled is cause = record {
+  either = inr (record { settled = settled; ended = is });
+  legal = ended_legal (record { run = run; left = input.before; held = out.before }) input.now out.now history ends is;
+  cause = cause;
+}
+
+-- the history in which sample 0 does not settle
+unserved_legal : (facts : RunFacts) → facts.length ≡ 0 → 1 ≤ facts.count → Legal facts (entry.Unsettled ∷ entry.End ∷ [])
+unserved_legal facts short some =
+    legal_taken facts (entry.Unsettled ∷ entry.End ∷ [])
+    (one_more (one_more none entry.Unsettled (record { allows = refl; meets = (sym short, (let lt : facts.length < facts.count = omega (arith, short, some) in lt)) })) entry.End
+    (record { allows = refl; meets = tt {0} }))
+    (apart entry.Unsettled (entry.End ∷ []))
+  where
+    apart : (e : Entry) (es : List Entry) → e ∷ es ≡ [] → ⊥
+    apart e es h = cc
+
+pub unserved_is_held : (run : Sampled) (input out : Told) (history : List Entry) → run_length (run_of run) ≡ 0 → 1 ≤ (run_of run).count → history ≡ entry.Unsettled ∷ entry.End ∷ []
+    → input.now ≡ input.before → out.now ≡ out.before → input.faults_now ≡ input.faults → out.faults_now ≡ out.faults → IsHeld run input out history ending.Served
+unserved_is_held run input out history short some is quiet_input quiet_out input_same out_same = record {
+  either = inl (record { unsettled = short; is = is; ended = refl; quiet_input = quiet_input; quiet_out = quiet_out });
+  legal = subst (λ (h : List Entry). Legal (facts_of (run_of run)) h) (sym is) (unserved_legal (facts_of (run_of run)) short some);
+  cause = (input_same, out_same);
+}

@@ -1,0 +1,81 @@
+//! A session with one client, and its log.
+ghost use Rattle.std.specs.Prelude.{◌≡◌, [], ◌≤◌, IfOk, OnErr, false};
+ghost use Rattle.flat_run.specs.Run.{run_of};
+ghost use Rattle.hall_core.specs.Replay.{replay};
+ghost use Rattle.cxxsim.specs.Outside.{HasGot, told};
+ghost use Rattle.cxxsim.specs.Solo.{IsHeld, IsSessionOf};
+
+use flat_run::FlatRun;
+use hall_core::log_text;
+use outside::{Sink, Source, put_all};
+use sim_base::NoMemory;
+use solo_session::{Ending, Session, serve};
+use std::alloc::Global;
+
+/// How a session was closed.
+#[derive(Clone, Copy, Debug, PartialEq, Eq)]
+pub struct Closed {
+    pub ending: Ending,
+    /// A sample did not settle.
+    pub unsettled: bool,
+    /// The log has got the whole history.
+    pub logged: bool,
+}
+
+/// Opens a session and serves its client, where sample 0 settles.
+fn hold<I: Source, O: Sink>(
+    alloc: Global,
+    session: &mut Session,
+    input: &mut I,
+    out: &mut O,
+) -> Result<Ending, NoMemory>
+    requires history { session.old.history ≡ [] }
+    requires greeted { session.old.greeted ≡ false }
+    requires some { 1 ≤ (run_of session.old.run).count }
+    ensures held { IfOk result (λ ending. IsHeld session.old.run (told (I.left input.old) (I.left input.new) (I.faults input.old) (I.faults input.new)) (told (O.held out.old) (O.held out.new) (O.faults out.old) (O.faults out.new)) session.new.history ending) }
+    ensures input_later { I.faults input.old ≤ I.faults input.new }
+    ensures out_later { O.faults out.old ≤ O.faults out.new }
+{
+    if session.open()? {
+        serve(alloc, session, input, out)
+    } else {
+        Ok(Ending::Served)
+    }
+}
+
+/// Serves one client of a run, and writes the history to the log.
+pub fn converse<I: Source, O: Sink, G: Sink>(
+    alloc: Global,
+    run: FlatRun,
+    input: &mut I,
+    out: &mut O,
+    log: &mut G,
+) -> Result<Closed, NoMemory>
+    ensures session { IfOk result (IsSessionOf run (told (I.left input.old) (I.left input.new) (I.faults input.old) (I.faults input.new)) (told (O.held out.old) (O.held out.new) (O.faults out.old) (O.faults out.new)) (told (G.held log.old) (G.held log.new) (G.faults log.old) (G.faults log.new))) }
+    ensures quiet { OnErr result (G.held log.new ≡ G.held log.old) }
+    ensures input_later { I.faults input.old ≤ I.faults input.new }
+    ensures out_later { O.faults out.old ≤ O.faults out.new }
+    ensures log_later { G.faults log.old ≤ G.faults log.new }
+{
+    let _count = run.count();
+    let mut session = Session::new(alloc, run)?;
+    let ending = hold(alloc, &mut session, input, out)?;
+    let text = log_text(alloc, session.history())?;
+    let logged = put_log(log, &text);
+    Ok(Closed {
+        ending,
+        unsettled: session.is_unsettled(),
+        logged,
+    })
+}
+
+/// Writes a text to a log, and answers whether the log has got the whole of it.
+pub fn put_log<G: Sink>(log: &mut G, text: &[u8]) -> bool
+    ensures got { HasGot result (told (G.held log.old) (G.held log.new) (G.faults log.old) (G.faults log.new)) text.now }
+    ensures later { G.faults log.old ≤ G.faults log.new }
+{
+    match put_all(log, text) {
+        Ok(()) => true,
+        Err(_) => false,
+    }
+}
