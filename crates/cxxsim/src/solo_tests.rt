@@ -424,11 +424,12 @@ fn a_client_is_greeted(rt: HostRuntime) -> Result<(), Fail> {
         (VERSION_1, WRONG_VERSION),
         (STATUS, NOT_GREETED),
     ] {
-        check_pieces(&rt, &on_counter(&[sent], &[said], &ONE_PACKET))?;
+        let (sent, said) = ([sent], [said]);
+        check_pieces(&rt, &on_counter(&sent, &said, &ONE_PACKET))?;
     }
     for (sent, said) in [(GREETING, GREETED_AGAIN), (SCOPES, UNKNOWN)] {
-        let row = on_counter(&[GREETING, sent], &[GREETED, said], &TWO_PACKETS);
-        check_pieces(&rt, &row)?;
+        let (sent, said) = ([GREETING, sent], [GREETED, said]);
+        check_pieces(&rt, &on_counter(&sent, &said, &TWO_PACKETS))?;
     }
     Ok(())
 }
