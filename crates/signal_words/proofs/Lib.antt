@@ -1,4 +1,5 @@
 pub mod Numbers
 pub mod Signals
+pub mod Single
 pub mod Fitting
 pub mod Steps

@@ -1,7 +1,7 @@
 -- Signals over the values of nets.
-use Rattle.std.specs.Prelude.{ℕ, ◌+◌, ◌^◌, ◌<◌, ◌≤◌, List, [], ◌∷◌, length, map, slice_index}
+use Rattle.std.specs.Prelude.{◌≡◌, ℕ, ◌+◌, ◌^◌, ◌<◌, ◌≤◌, List, [], ◌∷◌, length, map, slice_index}
 use Rattle.sim_base.specs.BitValue.{BitValue}
-use Rattle.circuit.specs.Signal.{Digits, digits_of_nets, piece_width, sig_width}
+use Rattle.circuit.specs.Signal.{Digits, digits_of_nets, piece_width, sig_number, sig_width}
 use Rattle.circuit.specs.Valid.{widest}
 use Rattle.circuit.specs.declared.netlist.Piece.{Piece}
 use Rattle.circuit.specs.declared.netlist.Piece.TheVariants as piece
@@ -45,3 +45,10 @@ pub record IsPlace (values : List BitValue) (pieces : List Piece) (at : ℕ) : T
 pub record IsSignalOf (values : List BitValue) (sig : List Piece) : Type 0 where
   pub inside : AreInside values sig
   pub width : sig_width sig ≤ widest
+
+-- the width and the number of a signal of at most 64 bits
+pub record IsWordOf (values : List BitValue) (sig : List Piece) (width number : ℕ) : Type 0 where
+  pub small : width ≤ 64
+  pub width_is : width ≡ sig_width sig
+  pub number_is : number ≡ sig_number (digits_in values) sig
+  pub below : number < 2 ^ width

@@ -7,8 +7,10 @@ mod reader;
 mod signal;
 #[cfg(test)]
 mod tests;
+mod word;
 
 pub use laws::{law_of_start, law_of_stores};
 pub use piece::{piece_width, piece_word};
 pub use reader::SigReader;
 pub use signal::{sig_bit, sig_field, sig_width, sig_word};
+pub use word::{SigWord, one_word, word_of};

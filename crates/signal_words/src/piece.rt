@@ -38,8 +38,23 @@ pub fn piece_field(piece: &Piece, nets: &[Bits], at: u32, n: u32) -> u64
     }
 }
 
+/// The number of `n` bits of a value from its bit `at` on. Most parts begin with the first bit, and those need
+/// no shift.
+#[inline(always)]
+fn value_field(value: &Bits, at: u32, n: u32) -> u64
+    requires small { n ≤ 64 }
+    requires inside { at + n ≤ value.now.width }
+    ensures { result ≡ value.now.number / 2 ^ at % 2 ^ n }
+{
+    if at == 0 {
+        value.field(0, n)
+    } else {
+        value.field(at, n)
+    }
+}
+
 /// The number of a piece.
-#[inline]
+#[inline(always)]
 pub fn piece_word(piece: &Piece, nets: &[Bits]) -> u64
     requires inside { IsInside nets.now piece.now }
     requires small { piece_width piece.now ≤ 64 }
@@ -51,6 +66,6 @@ pub fn piece_word(piece: &Piece, nets: &[Bits]) -> u64
             let width = value.width();
             value.field(0, width)
         }
-        Piece::Part { net, at, width } => nets[*net as usize].field(*at, *width),
+        Piece::Part { net, at, width } => value_field(&nets[*net as usize], *at, *width),
     }
 }

@@ -5,7 +5,7 @@ ghost use Rattle.sim_base.specs.BitValue.{BitValue, digit_of};
 ghost use Rattle.circuit.specs.Signal.{sig_number, sig_width};
 ghost use Rattle.signal_words.specs.Values.{digits_in, AreInside};
 
-use crate::piece::{piece_width, piece_word};
+use crate::piece::{piece_field, piece_width, piece_word};
 use crate::reader::SigReader;
 use circuit::Piece;
 use sim_base::Bits;
@@ -45,8 +45,9 @@ pub fn sig_word(sig: &[Piece], nets: &[Bits]) -> u64
     word
 }
 
-/// The number of `n` bits, at most 64, of a signal from its bit `at` on.
-pub fn sig_field(sig: &[Piece], nets: &[Bits], at: u32, n: u32) -> u64
+/// The same as `sig_field` of a signal of any pieces. It stands apart so that `sig_field` stays small.
+#[inline(never)]
+fn field_of_pieces(sig: &[Piece], nets: &[Bits], at: u32, n: u32) -> u64
     requires inside { AreInside nets.now sig.now }
     requires fits { sig_width sig.now < 2 ^ 32 }
     requires small { n ≤ 64 }
@@ -55,6 +56,23 @@ pub fn sig_field(sig: &[Piece], nets: &[Bits], at: u32, n: u32) -> u64
     let mut reader = SigReader::new(sig, nets);
     reader.skip(at);
     reader.take(n)
+}
+
+/// The number of `n` bits, at most 64, of a signal from its bit `at` on.
+#[inline]
+pub fn sig_field(sig: &[Piece], nets: &[Bits], at: u32, n: u32) -> u64
+    requires inside { AreInside nets.now sig.now }
+    requires fits { sig_width sig.now < 2 ^ 32 }
+    requires small { n ≤ 64 }
+    ensures { result ≡ sig_number (digits_in nets.now) sig.now / 2 ^ at % 2 ^ n }
+{
+    if let [piece] = sig {
+        let width = piece_width(piece);
+        if at <= width && n <= width - at {
+            return piece_field(piece, nets, at, n);
+        }
+    }
+    field_of_pieces(sig, nets, at, n)
 }
 
 /// Whether bit `i` of a signal is 1.

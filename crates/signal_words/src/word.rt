@@ -1,0 +1,76 @@
+//! Signals of one word.
+ghost use Rattle.std.specs.Prelude.{◌≡◌, ◌<◌, ◌≤◌, ◌^◌, IfSome};
+ghost use Rattle.circuit.specs.Signal.{piece_number, piece_width, sig_width};
+ghost use Rattle.signal_words.specs.Values.{digits_in, AreInside, IsInside, IsWordOf};
+
+use crate::piece::piece_word;
+use crate::signal::{sig_width, sig_word};
+use circuit::Piece;
+use sim_base::Bits;
+
+/// The width of a signal in bits, at most 64, and its number.
+#[derive(Clone, Copy, Debug)]
+pub struct SigWord {
+    pub width: u32,
+    pub number: u64,
+}
+
+/// The width and the number of a piece, where it has at most 64 bits.
+#[inline(always)]
+fn word_of_piece(piece: &Piece, nets: &[Bits]) -> Option<SigWord>
+    requires { IsInside nets.now piece.now }
+    ensures small { IfSome result (λ word. word.width ≤ 64) }
+    ensures width { IfSome result (λ word. word.width ≡ piece_width piece.now) }
+    ensures number { IfSome result (λ word. word.number ≡ piece_number (digits_in nets.now) piece.now) }
+    ensures below { IfSome result (λ word. word.number < 2 ^ word.width) }
+{
+    match piece {
+        Piece::Const(value) => {
+            let width = value.width();
+            if width > 64 {
+                return None;
+            }
+            let number = value.field(0, width);
+            Some(SigWord { width, number })
+        }
+        Piece::Part { width, .. } => {
+            let width = *width;
+            if width > 64 {
+                return None;
+            }
+            let number = piece_word(piece, nets);
+            Some(SigWord { width, number })
+        }
+    }
+}
+
+/// The width and the number of a signal that is one piece of at most 64 bits, or none. Most signals are, and
+/// they are read without a loop.
+#[inline(always)]
+pub fn one_word(sig: &[Piece], nets: &[Bits]) -> Option<SigWord>
+    requires { AreInside nets.now sig.now }
+    ensures { IfSome result (λ word. IsWordOf nets.now sig.now word.width word.number) }
+{
+    match sig {
+        [piece] => word_of_piece(piece, nets),
+        [] => Some(SigWord {
+            width: 0,
+            number: 0,
+        }),
+        _ => None,
+    }
+}
+
+/// The width and the number of a signal of any pieces, where it has at most 64 bits.
+pub fn word_of(sig: &[Piece], nets: &[Bits]) -> Option<SigWord>
+    requires inside { AreInside nets.now sig.now }
+    requires fits { sig_width sig.now < 2 ^ 32 }
+    ensures { IfSome result (λ word. IsWordOf nets.now sig.now word.width word.number) }
+{
+    let width = sig_width(sig);
+    if width > 64 {
+        return None;
+    }
+    let number = sig_word(sig, nets);
+    Some(SigWord { width, number })
+}
