@@ -1,9 +1,10 @@
 -- What cells give, digit by digit.
-use Rattle.std.proofs.Common.{List, ◌≡◌, ℕ, ◌+◌, ◌-◌, ◌%◌, ◌^◌, ◌<◌, refl, sym, ◌∙◌, ap, subst, arith, Bool, true}
+use Rattle.std.proofs.Common.{List, ◌≡◌, ℕ, ◌+◌, ◌-◌, ◌%◌, ◌^◌, ◌<◌, refl, sym, ◌∙◌, ap, subst, arith, Bool, true, false}
 use Rattle.std.proofs.Math.Nat.{add-mod_right, mod-eq_of_lt}
-use Rattle.std.specs.Prelude.{ℤ, pos, ◌-ℤ◌}
+use Rattle.std.specs.Prelude.{ℤ, pos, ◌-ℤ◌, ◌==◌}
+use Rattle.std.proofs.lemmas.Bool.{cond-true, cond-false}
 use Rattle.std.proofs.lemmas.Nat.{pow_pos}
-use Rattle.sim_base.specs.BitValue.{BitValue}
+use Rattle.sim_base.specs.BitValue.{BitValue, bit_value}
 use Rattle.circuit.specs.Signal.{Digits, sig_number, sig_width}
 use Rattle.circuit.specs.declared.netlist.Piece.{Piece}
 use Rattle.circuit.specs.Output.{modulo, formula, inputs_of, output, operand, left, right, first}
@@ -73,3 +74,21 @@ operand_read digits w x signed flag sig port e s p =
 -- a combination of two operands is below
 pub combined_word : (op : Bitwise) (w x y : ℕ) (a b : ℤ) → x ≡ modulo w a → y ≡ modulo w b → combined op x y < 2 ^ w
 combined_word op w x y a b e f = combined_below op x y w (subst (λ k. k < 2 ^ w) (sym e) (modulo_below w a)) (subst (λ k. k < 2 ^ w) (sym f) (modulo_below w b))
+
+-- an operand that was read from the word of a port
+pub word_read : (w x : ℕ) (signed flag : Bool) (v : BitValue) (width number : ℕ) → x ≡ modulo w (operand signed width number) → signed ≡ flag → v ≡ bit_value width number → x ≡ modulo w (operand flag v.width v.number)
+word_read w x signed flag v width number e s is =
+    e ∙ ap (λ t. modulo w (operand t width number)) s ∙ ap (λ (u : BitValue). modulo w (operand flag u.width u.number)) (sym is)
+
+-- one of two ports
+pub mux_first : (digits : Digits) (c : Cell) (w : ℕ) (s sig : List Piece) (t : Bool) → c.op ≡ op.Mux → w ≡ c.width → s ≡ c.s → sig ≡ c.a → t ≡ (sig_number digits s == 1) → t ≡ false → sig_number digits sig % 2 ^ w ≡ output digits c
+mux_first digits c w s sig t is width selects reads told e =
+    let n : (sig_number digits c.s == 1) ≡ false = ap (λ x. sig_number digits x == 1) (sym selects) ∙ sym told ∙ e in
+    ap (λ x. sig_number digits x % 2 ^ w) reads ∙ ap (λ k. sig_number digits c.a % 2 ^ k) width
+    ∙ ap (λ n. n % 2 ^ c.width) (sym (cond-false (sig_number digits c.s == 1) (sig_number digits c.b) (sig_number digits c.a) n)) ∙ output_of digits c op.Mux is
+
+pub mux_second : (digits : Digits) (c : Cell) (w : ℕ) (s sig : List Piece) (t : Bool) → c.op ≡ op.Mux → w ≡ c.width → s ≡ c.s → sig ≡ c.b → t ≡ (sig_number digits s == 1) → t ≡ true → sig_number digits sig % 2 ^ w ≡ output digits c
+mux_second digits c w s sig t is width selects reads told e =
+    let n : (sig_number digits c.s == 1) ≡ true = ap (λ x. sig_number digits x == 1) (sym selects) ∙ sym told ∙ e in
+    ap (λ x. sig_number digits x % 2 ^ w) reads ∙ ap (λ k. sig_number digits c.b % 2 ^ k) width
+    ∙ ap (λ n. n % 2 ^ c.width) (sym (cond-true (sig_number digits c.s == 1) (sig_number digits c.b) (sig_number digits c.a) n)) ∙ output_of digits c op.Mux is

@@ -59,6 +59,10 @@ is_selection op.Slice = true
 is_selection op.Concat = true
 is_selection _ = false
 
+-- those that do not select
+abbrev pub is_computed : Op → Bool
+is_computed o = is_unary o || (is_bitwise o || is_truth o)
+
 abbrev pub is_wide : Op → Bool
 is_wide o = is_unary o || (is_bitwise o || (is_truth o || is_selection o))
 

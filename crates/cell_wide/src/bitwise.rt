@@ -1,8 +1,9 @@
 //! Cells that work digit by digit.
-ghost use Rattle.std.specs.Prelude.{◌≡◌, ℕ, ◌<◌, ◌≤◌, ◌^◌, true};
+ghost use Rattle.std.specs.Prelude.{◌≡◌, ℕ, ◌<◌, ◌≤◌, ◌^◌, true, IfSome};
+ghost use Rattle.sim_base.specs.BitValue.{bit_value};
 ghost use Rattle.circuit.specs.Output.{inputs_of, left, modulo, output, right};
-ghost use Rattle.circuit.specs.Signal.{sig_width};
-ghost use Rattle.signal_words.specs.Values.{digits_in, IsSignalOf};
+ghost use Rattle.circuit.specs.Signal.{Digits, sig_value};
+ghost use Rattle.signal_words.specs.Values.{digits_in, IsSignalOf, IsWordOf};
 ghost use Rattle.cell_wide.specs.Kinds.{IsReady, is_bitwise, is_unary};
 ghost use Rattle.cell_wide.specs.Words.{IsWritten, low_of_operand};
 
@@ -11,19 +12,20 @@ use crate::word::{is_signed, operand_word};
 use crate::words::{Bitwise, Inverse, Pair, ones};
 use crate::write::{put_word, write};
 use circuit::{Cell, Op};
-use signal_words::sig_width;
+use signal_words::SigWord;
 use sim_base::Bits;
 
 /// The output of a unary cell whose port and output have at most 64 bits.
-fn unary_word(cell: &Cell, nets: &[Bits]) -> u64
+#[inline(always)]
+fn unary_word(cell: &Cell, a: SigWord) -> u64
     requires kind { is_unary cell.now.op ≡ true }
-    requires a { IsSignalOf nets.now cell.now.a }
-    requires a_small { sig_width cell.now.a ≤ 64 }
+    requires a_small { a.width ≤ 64 }
+    requires a_below { a.number < 2 ^ a.width }
     requires small { cell.now.width ≤ 64 }
-    ensures value { result ≡ output (digits_in nets.now) cell.now }
+    ensures value { (digits : Digits) → sig_value digits cell.now.a ≡ bit_value a.width a.number → result ≡ output digits cell.now }
     ensures below { result < 2 ^ cell.now.width }
 {
-    let a = operand_word(cell.a.as_slice(), nets, cell.a_signed, cell.width);
+    let a = operand_word(a, cell.a_signed, cell.width);
     match cell.op {
         Op::Not => ones(cell.width) - a,
         _ => a,
@@ -31,18 +33,21 @@ fn unary_word(cell: &Cell, nets: &[Bits]) -> u64
 }
 
 /// `$not` and `$pos`.
-pub fn unary(cell: &Cell, nets: &[Bits], into: &mut Bits) -> bool
+#[inline(always)]
+pub fn unary(cell: &Cell, nets: &[Bits], a: Option<SigWord>, into: &mut Bits) -> bool
     requires kind { is_unary cell.now.op ≡ true }
     requires ready { IsReady nets.now cell.now into.old }
+    requires a { IfSome a (λ word. IsWordOf nets.now cell.now.a word.width word.number) }
     ensures { IsWritten (output (digits_in nets.now) cell.now) into.old into.new result }
 {
-    if cell.width <= 64 && sig_width(cell.a.as_slice()) <= 64 {
-        return put_word(into, unary_word(cell, nets));
+    match a {
+        Some(a) if cell.width <= 64 => put_word(into, unary_word(cell, a)),
+        _ => unary_wide(cell, nets, into),
     }
-    unary_wide(cell, nets, into)
 }
 
 /// The same for a cell of any width.
+#[inline(never)]
 fn unary_wide(cell: &Cell, nets: &[Bits], into: &mut Bits) -> bool
     requires kind { is_unary cell.now.op ≡ true }
     requires ready { IsReady nets.now cell.now into.old }
@@ -72,19 +77,21 @@ pub fn operands<'a>(cell: &'a Cell, nets: &'a [Bits], by: Bitwise) -> Pair<Opera
 }
 
 /// The output of a binary cell whose ports and output have at most 64 bits.
-fn bitwise_word(cell: &Cell, nets: &[Bits]) -> u64
+#[inline(always)]
+fn bitwise_word(cell: &Cell, a: SigWord, b: SigWord) -> u64
     requires kind { is_bitwise cell.now.op ≡ true }
-    requires a { IsSignalOf nets.now cell.now.a }
-    requires a_small { sig_width cell.now.a ≤ 64 }
-    requires b { IsSignalOf nets.now cell.now.b }
-    requires b_small { sig_width cell.now.b ≤ 64 }
+    requires a_small { a.width ≤ 64 }
+    requires a_below { a.number < 2 ^ a.width }
+    requires b_small { b.width ≤ 64 }
+    requires b_below { b.number < 2 ^ b.width }
     requires small { cell.now.width ≤ 64 }
-    ensures value { result ≡ output (digits_in nets.now) cell.now }
+    ensures value { (digits : Digits) → sig_value digits cell.now.a ≡ bit_value a.width a.number → sig_value digits cell.now.b ≡ bit_value b.width b.number
+        → result ≡ output digits cell.now }
     ensures below { result < 2 ^ cell.now.width }
 {
     let signed = is_signed(cell);
-    let a = operand_word(cell.a.as_slice(), nets, signed, cell.width);
-    let b = operand_word(cell.b.as_slice(), nets, signed, cell.width);
+    let a = operand_word(a, signed, cell.width);
+    let b = operand_word(b, signed, cell.width);
     match cell.op {
         Op::And => a & b,
         Op::Or => a | b,
@@ -94,21 +101,28 @@ fn bitwise_word(cell: &Cell, nets: &[Bits]) -> u64
 }
 
 /// `$and`, `$or`, `$xor` and `$xnor`.
-pub fn bitwise(cell: &Cell, nets: &[Bits], into: &mut Bits) -> bool
+#[inline(always)]
+pub fn bitwise(
+    cell: &Cell,
+    nets: &[Bits],
+    a: Option<SigWord>,
+    b: Option<SigWord>,
+    into: &mut Bits,
+) -> bool
     requires kind { is_bitwise cell.now.op ≡ true }
     requires ready { IsReady nets.now cell.now into.old }
+    requires a { IfSome a (λ word. IsWordOf nets.now cell.now.a word.width word.number) }
+    requires b { IfSome b (λ word. IsWordOf nets.now cell.now.b word.width word.number) }
     ensures { IsWritten (output (digits_in nets.now) cell.now) into.old into.new result }
 {
-    if cell.width <= 64
-        && sig_width(cell.a.as_slice()) <= 64
-        && sig_width(cell.b.as_slice()) <= 64
-    {
-        return put_word(into, bitwise_word(cell, nets));
+    match (a, b) {
+        (Some(a), Some(b)) if cell.width <= 64 => put_word(into, bitwise_word(cell, a, b)),
+        _ => bitwise_wide(cell, nets, into),
     }
-    bitwise_wide(cell, nets, into)
 }
 
 /// The same for a cell of any width.
+#[inline(never)]
 fn bitwise_wide(cell: &Cell, nets: &[Bits], into: &mut Bits) -> bool
     requires kind { is_bitwise cell.now.op ≡ true }
     requires ready { IsReady nets.now cell.now into.old }

@@ -1,9 +1,9 @@
 //! Cells that select among the bits of their ports.
-ghost use Rattle.std.specs.Prelude.{◌≡◌, ℕ, ◌*◌, ◌/◌, ◌%◌, ◌^◌, ◌<◌, ◌≤◌, true};
+ghost use Rattle.std.specs.Prelude.{◌≡◌, ℕ, ◌*◌, ◌/◌, ◌%◌, ◌^◌, ◌<◌, ◌≤◌, ◌==◌, true};
 ghost use Rattle.circuit.specs.Output.{lowest_from, output};
 ghost use Rattle.circuit.specs.Signal.{sig_number, sig_width};
 ghost use Rattle.circuit.specs.declared.cell.Op.TheVariants as op;
-ghost use Rattle.signal_words.specs.Values.{digits_in, IsSignalOf};
+ghost use Rattle.signal_words.specs.Values.{digits_in, AreInside, IsSignalOf};
 ghost use Rattle.cell_wide.specs.Kinds.{IsReady, is_selection};
 ghost use Rattle.cell_wide.specs.Words.{IsWritten};
 
@@ -12,7 +12,7 @@ use crate::operand::is_zero;
 use crate::words::{Bitwise, Chain, Fill, Inverse, Pair};
 use crate::write::{put_word, write};
 use circuit::{Cell, Op, Piece};
-use signal_words::{SigReader, sig_field, sig_width, sig_word};
+use signal_words::{SigReader, one_word, sig_field, sig_width, sig_word, word_of};
 use sim_base::Bits;
 
 /// Writes the bits of a signal from its bit `at` on.
@@ -29,6 +29,55 @@ fn copy(sig: &[Piece], nets: &[Bits], at: u32, into: &mut Bits) -> bool
     write(&mut digits, into)
 }
 
+/// Writes a signal that has the width of the value.
+#[inline(always)]
+fn copy_whole(sig: &[Piece], nets: &[Bits], into: &mut Bits) -> bool
+    requires signal { IsSignalOf nets.now sig.now }
+    requires width { sig_width sig.now ≡ into.old.width }
+    ensures { IsWritten (sig_number (digits_in nets.now) sig.now % 2 ^ into.old.width) into.old into.new result }
+{
+    match one_word(sig, nets) {
+        Some(word) => put_word(into, word.number),
+        None => copy_pieces(sig, nets, into),
+    }
+}
+
+/// The same for a signal of any pieces.
+#[inline(never)]
+fn copy_pieces(sig: &[Piece], nets: &[Bits], into: &mut Bits) -> bool
+    requires signal { IsSignalOf nets.now sig.now }
+    requires width { sig_width sig.now ≡ into.old.width }
+    ensures { IsWritten (sig_number (digits_in nets.now) sig.now % 2 ^ into.old.width) into.old into.new result }
+{
+    match word_of(sig, nets) {
+        Some(word) => put_word(into, word.number),
+        None => write(&mut SigReader::new(sig, nets), into),
+    }
+}
+
+/// Whether the number of a signal of one bit is 1.
+#[inline(always)]
+fn is_one(sig: &[Piece], nets: &[Bits]) -> bool
+    requires inside { AreInside nets.now sig.now }
+    requires narrow { sig_width sig.now ≡ 1 }
+    ensures { result ≡ (sig_number (digits_in nets.now) sig.now == 1) }
+{
+    match one_word(sig, nets) {
+        Some(word) => word.number == 1,
+        None => is_one_of_pieces(sig, nets),
+    }
+}
+
+/// The same for a signal of any pieces.
+#[inline(never)]
+fn is_one_of_pieces(sig: &[Piece], nets: &[Bits]) -> bool
+    requires inside { AreInside nets.now sig.now }
+    requires narrow { sig_width sig.now ≡ 1 }
+    ensures { result ≡ (sig_number (digits_in nets.now) sig.now == 1) }
+{
+    sig_word(sig, nets) == 1
+}
+
 /// Where the part begins that `s` selects among parts of this width, all of which have at most 65,536
 /// bits.
 fn selected(width: u32, s: &[Piece], nets: &[Bits]) -> u32
@@ -42,15 +91,16 @@ fn selected(width: u32, s: &[Piece], nets: &[Bits]) -> u32
     width * sig_word(s, nets) as u32
 }
 
-fn mux(cell: &Cell, nets: &[Bits], into: &mut Bits) -> bool
+#[inline(always)]
+pub fn mux(cell: &Cell, nets: &[Bits], into: &mut Bits) -> bool
     requires kind { cell.now.op ≡ op.Mux }
     requires ready { IsReady nets.now cell.now into.old }
     ensures { IsWritten (output (digits_in nets.now) cell.now) into.old into.new result }
 {
-    if sig_word(cell.s.as_slice(), nets) == 1 {
-        copy(cell.b.as_slice(), nets, 0, into)
+    if is_one(cell.s.as_slice(), nets) {
+        copy_whole(cell.b.as_slice(), nets, into)
     } else {
-        copy(cell.a.as_slice(), nets, 0, into)
+        copy_whole(cell.a.as_slice(), nets, into)
     }
 }
 
@@ -154,6 +204,7 @@ fn concat(cell: &Cell, nets: &[Bits], into: &mut Bits) -> bool
 }
 
 /// `$mux`, `$pmux`, `$bmux`, `$demux`, `$bwmux`, `$bweqx`, `$slice` and `$concat`.
+#[inline(never)]
 pub fn selection(cell: &Cell, nets: &[Bits], into: &mut Bits) -> bool
     requires kind { is_selection cell.now.op ≡ true }
     requires ready { IsReady nets.now cell.now into.old }

@@ -1,8 +1,8 @@
 //! Cells that give a truth value.
-ghost use Rattle.std.specs.Prelude.{◌≡◌, ℕ, ◌==◌, ◌%◌, ◌^◌, ◌-◌, true};
-ghost use Rattle.circuit.specs.Output.{Inputs, formula, inputs_of, is_equal, ones, output, truth};
+ghost use Rattle.std.specs.Prelude.{◌≡◌, ◌==◌, ◌&&◌, ◌%◌, ◌^◌, ◌-◌, ◌<◌, ◌≤◌, int_le, true, IfSome};
+ghost use Rattle.circuit.specs.Output.{Inputs, formula, inputs_of, is_equal, modulo, ones, operand, output, truth};
 ghost use Rattle.circuit.specs.Signal.{sig_number, sig_value, sig_width};
-ghost use Rattle.signal_words.specs.Values.{digits_in, IsSignalOf};
+ghost use Rattle.signal_words.specs.Values.{digits_in, IsSignalOf, IsWordOf};
 ghost use Rattle.cell_wide.specs.Kinds.{IsReady, is_equality, is_logic, is_reduction, is_truth};
 ghost use Rattle.cell_wide.specs.Words.{IsWritten};
 
@@ -11,26 +11,64 @@ use crate::count::is_odd;
 use crate::operand::is_zero;
 use crate::word::{is_signed, operand_word};
 use crate::words::{Bitwise, Chain, Fill, Pair, ones as all_ones};
-use crate::write::{same, write};
+use crate::write::{put_word, same, write};
 use circuit::{Cell, Op, Piece};
-use signal_words::{SigReader, sig_width, sig_word};
+use signal_words::{SigReader, SigWord, sig_width};
 use sim_base::Bits;
 
 /// Whether all bits of a signal are 1.
-fn are_ones(sig: &[Piece], nets: &[Bits]) -> bool
+#[inline(always)]
+fn are_ones(sig: &[Piece], nets: &[Bits], word: Option<SigWord>) -> bool
+    requires signal { IsSignalOf nets.now sig.now }
+    requires word { IfSome word (λ word. IsWordOf nets.now sig.now word.width word.number) }
+    ensures { result ≡ (sig_number (digits_in nets.now) sig.now == 2 ^ sig_width sig.now - 1) }
+{
+    match word {
+        Some(word) => word.number == all_ones(word.width),
+        None => are_ones_wide(sig, nets),
+    }
+}
+
+/// The same for a signal of any width.
+#[inline(never)]
+fn are_ones_wide(sig: &[Piece], nets: &[Bits]) -> bool
     requires { IsSignalOf nets.now sig.now }
     ensures { result ≡ (sig_number (digits_in nets.now) sig.now == 2 ^ sig_width sig.now - 1) }
 {
     let width = sig_width(sig);
-    if width <= 64 {
-        return sig_word(sig, nets) == all_ones(width);
-    }
     let mut number = SigReader::new(sig, nets);
     same(&mut number, &mut Fill { ones: true }, width)
 }
 
+/// Whether the number of a signal is 0.
+#[inline(always)]
+fn is_none(sig: &[Piece], nets: &[Bits], word: Option<SigWord>) -> bool
+    requires signal { IsSignalOf nets.now sig.now }
+    requires word { IfSome word (λ word. IsWordOf nets.now sig.now word.width word.number) }
+    ensures { result ≡ (sig_number (digits_in nets.now) sig.now == 0) }
+{
+    match word {
+        Some(word) => word.number == 0,
+        None => is_zero(sig, nets),
+    }
+}
+
 /// Whether the number of bits of a signal that are 1 is odd.
-fn has_odd_ones(sig: &[Piece], nets: &[Bits]) -> bool
+#[inline(always)]
+fn has_odd_ones(sig: &[Piece], nets: &[Bits], word: Option<SigWord>) -> bool
+    requires signal { IsSignalOf nets.now sig.now }
+    requires word { IfSome word (λ word. IsWordOf nets.now sig.now word.width word.number) }
+    ensures { result ≡ (ones (sig_width sig.now) (sig_number (digits_in nets.now) sig.now) % 2 == 1) }
+{
+    match word {
+        Some(word) => word.number.count_ones() % 2 == 1,
+        None => has_odd_ones_wide(sig, nets),
+    }
+}
+
+/// The same for a signal of any width.
+#[inline(never)]
+fn has_odd_ones_wide(sig: &[Piece], nets: &[Bits]) -> bool
     requires { IsSignalOf nets.now sig.now }
     ensures { result ≡ (ones (sig_width sig.now) (sig_number (digits_in nets.now) sig.now) % 2 == 1) }
 {
@@ -39,34 +77,69 @@ fn has_odd_ones(sig: &[Piece], nets: &[Bits]) -> bool
     is_odd(&mut number, width)
 }
 
-fn reduced(op: Op, a: &[Piece], nets: &[Bits]) -> bool
+#[inline(always)]
+fn reduced(op: Op, sig: &[Piece], nets: &[Bits], a: Option<SigWord>) -> bool
     requires kind { is_reduction op ≡ true }
-    requires a { IsSignalOf nets.now a.now }
-    ensures { (i : Inputs) → i.a ≡ sig_value (digits_in nets.now) a.now → formula op i ≡ truth result }
+    requires signal { IsSignalOf nets.now sig.now }
+    requires a { IfSome a (λ word. IsWordOf nets.now sig.now word.width word.number) }
+    ensures { (i : Inputs) → i.a ≡ sig_value (digits_in nets.now) sig.now → formula op i ≡ truth result }
 {
     match op {
-        Op::ReduceAnd => are_ones(a, nets),
-        Op::ReduceOr | Op::ReduceBool => !is_zero(a, nets),
-        Op::ReduceXor => has_odd_ones(a, nets),
-        _ => !has_odd_ones(a, nets),
+        Op::ReduceAnd => are_ones(sig, nets, a),
+        Op::ReduceOr | Op::ReduceBool => !is_none(sig, nets, a),
+        Op::ReduceXor => has_odd_ones(sig, nets, a),
+        _ => !has_odd_ones(sig, nets, a),
     }
 }
 
-fn logic(op: Op, a: &[Piece], b: &[Piece], nets: &[Bits]) -> bool
-    requires kind { is_logic op ≡ true }
-    requires a { IsSignalOf nets.now a.now }
-    requires b { IsSignalOf nets.now b.now }
-    ensures { (i : Inputs) → i.a ≡ sig_value (digits_in nets.now) a.now → i.b ≡ sig_value (digits_in nets.now) b.now → formula op i ≡ truth result }
+#[inline(always)]
+fn logic(cell: &Cell, nets: &[Bits], a: Option<SigWord>, b: Option<SigWord>) -> bool
+    requires kind { is_logic cell.now.op ≡ true }
+    requires a_signal { IsSignalOf nets.now cell.now.a }
+    requires b_signal { IsSignalOf nets.now cell.now.b }
+    requires a { IfSome a (λ word. IsWordOf nets.now cell.now.a word.width word.number) }
+    requires b { IfSome b (λ word. IsWordOf nets.now cell.now.b word.width word.number) }
+    ensures { formula cell.now.op (inputs_of (digits_in nets.now) cell.now) ≡ truth result }
 {
-    match op {
-        Op::LogicNot => is_zero(a, nets),
-        Op::LogicAnd => !is_zero(a, nets) && !is_zero(b, nets),
-        _ => !is_zero(a, nets) || !is_zero(b, nets),
+    let (one, other) = (cell.a.as_slice(), cell.b.as_slice());
+    match cell.op {
+        Op::LogicNot => is_none(one, nets, a),
+        Op::LogicAnd => !is_none(one, nets, a) && !is_none(other, nets, b),
+        _ => !is_none(one, nets, a) || !is_none(other, nets, b),
     }
+}
+
+/// Whether two words stand for the same whole number.
+#[inline(always)]
+fn are_equal_words(a: SigWord, b: SigWord, signed: bool) -> bool
+    requires a_small { a.width ≤ 64 }
+    requires a_below { a.number < 2 ^ a.width }
+    requires b_small { b.width ≤ 64 }
+    requires b_below { b.number < 2 ^ b.width }
+    ensures { result ≡ (int_le (operand signed a.width a.number) (operand signed b.width b.number) && int_le (operand signed b.width b.number) (operand signed a.width a.number)) }
+{
+    let width = a.width.max(b.width);
+    operand_word(a, signed, width) == operand_word(b, signed, width)
 }
 
 /// Whether the two operands of a cell are the same whole number.
-fn are_equal(cell: &Cell, nets: &[Bits]) -> bool
+#[inline(always)]
+fn are_equal(cell: &Cell, nets: &[Bits], a: Option<SigWord>, b: Option<SigWord>) -> bool
+    requires a_signal { IsSignalOf nets.now cell.now.a }
+    requires b_signal { IsSignalOf nets.now cell.now.b }
+    requires a { IfSome a (λ word. IsWordOf nets.now cell.now.a word.width word.number) }
+    requires b { IfSome b (λ word. IsWordOf nets.now cell.now.b word.width word.number) }
+    ensures { result ≡ is_equal (inputs_of (digits_in nets.now) cell.now) }
+{
+    match (a, b) {
+        (Some(a), Some(b)) => are_equal_words(a, b, is_signed(cell)),
+        _ => are_equal_wide(cell, nets),
+    }
+}
+
+/// The same for operands of any width.
+#[inline(never)]
+fn are_equal_wide(cell: &Cell, nets: &[Bits]) -> bool
     requires a { IsSignalOf nets.now cell.now.a }
     requires b { IsSignalOf nets.now cell.now.b }
     ensures { result ≡ is_equal (inputs_of (digits_in nets.now) cell.now) }
@@ -74,10 +147,6 @@ fn are_equal(cell: &Cell, nets: &[Bits]) -> bool
     let a = cell.a.as_slice();
     let b = cell.b.as_slice();
     let width = sig_width(a).max(sig_width(b));
-    if width <= 64 {
-        let signed = is_signed(cell);
-        return operand_word(a, nets, signed, width) == operand_word(b, nets, signed, width);
-    }
     let Pair {
         mut one,
         mut other,
@@ -86,41 +155,73 @@ fn are_equal(cell: &Cell, nets: &[Bits]) -> bool
     same(&mut one, &mut other, width)
 }
 
-fn equality(cell: &Cell, nets: &[Bits]) -> bool
+#[inline(always)]
+fn equality(cell: &Cell, nets: &[Bits], a: Option<SigWord>, b: Option<SigWord>) -> bool
     requires kind { is_equality cell.now.op ≡ true }
-    requires a { IsSignalOf nets.now cell.now.a }
-    requires b { IsSignalOf nets.now cell.now.b }
+    requires a_signal { IsSignalOf nets.now cell.now.a }
+    requires b_signal { IsSignalOf nets.now cell.now.b }
+    requires a { IfSome a (λ word. IsWordOf nets.now cell.now.a word.width word.number) }
+    requires b { IfSome b (λ word. IsWordOf nets.now cell.now.b word.width word.number) }
     ensures { formula cell.now.op (inputs_of (digits_in nets.now) cell.now) ≡ truth result }
 {
-    let equal = are_equal(cell, nets);
+    let equal = are_equal(cell, nets, a, b);
     match cell.op {
         Op::Eq | Op::Eqx => equal,
         _ => !equal,
     }
 }
 
-fn truth_of(cell: &Cell, nets: &[Bits]) -> bool
+#[inline(always)]
+fn truth_of(cell: &Cell, nets: &[Bits], a: Option<SigWord>, b: Option<SigWord>) -> bool
     requires kind { is_truth cell.now.op ≡ true }
-    requires a { IsSignalOf nets.now cell.now.a }
-    requires b { IsSignalOf nets.now cell.now.b }
+    requires a_signal { IsSignalOf nets.now cell.now.a }
+    requires b_signal { IsSignalOf nets.now cell.now.b }
+    requires a { IfSome a (λ word. IsWordOf nets.now cell.now.a word.width word.number) }
+    requires b { IfSome b (λ word. IsWordOf nets.now cell.now.b word.width word.number) }
     ensures { formula cell.now.op (inputs_of (digits_in nets.now) cell.now) ≡ truth result }
 {
     match cell.op {
-        Op::Eq | Op::Ne | Op::Eqx | Op::Nex => equality(cell, nets),
-        Op::LogicNot | Op::LogicAnd | Op::LogicOr => {
-            logic(cell.op, cell.a.as_slice(), cell.b.as_slice(), nets)
-        }
-        _ => reduced(cell.op, cell.a.as_slice(), nets),
+        Op::Eq | Op::Ne | Op::Eqx | Op::Nex => equality(cell, nets, a, b),
+        Op::LogicNot | Op::LogicAnd | Op::LogicOr => logic(cell, nets, a, b),
+        _ => reduced(cell.op, cell.a.as_slice(), nets, a),
     }
 }
 
 /// The reductions, `$logic_not`, `$logic_and` and `$logic_or`, `$eq`, `$ne`, `$eqx` and `$nex`.
-pub fn truth(cell: &Cell, nets: &[Bits], into: &mut Bits) -> bool
+#[inline(always)]
+pub fn truth(
+    cell: &Cell,
+    nets: &[Bits],
+    a: Option<SigWord>,
+    b: Option<SigWord>,
+    into: &mut Bits,
+) -> bool
     requires kind { is_truth cell.now.op ≡ true }
     requires ready { IsReady nets.now cell.now into.old }
+    requires a { IfSome a (λ word. IsWordOf nets.now cell.now.a word.width word.number) }
+    requires b { IfSome b (λ word. IsWordOf nets.now cell.now.b word.width word.number) }
     ensures { IsWritten (output (digits_in nets.now) cell.now) into.old into.new result }
 {
-    let ones = truth_of(cell, nets);
+    let ones = truth_of(cell, nets, a, b);
+    put_truth(into, ones)
+}
+
+/// Makes the number of a value 1 or 0, as far as it has bits, and tells whether that changed it.
+#[inline(always)]
+fn put_truth(into: &mut Bits, ones: bool) -> bool
+    ensures { IsWritten (modulo into.old.width (truth ones)) into.old into.new result }
+{
+    if into.width() == 1 {
+        return put_word(into, u64::from(ones));
+    }
+    put_truth_wide(into, ones)
+}
+
+/// The same for a value of any width.
+#[inline(never)]
+fn put_truth_wide(into: &mut Bits, ones: bool) -> bool
+    ensures { IsWritten (modulo into.old.width (truth ones)) into.old into.new result }
+{
     let mut digits = Chain {
         low: Fill { ones },
         left: 1,

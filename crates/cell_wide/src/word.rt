@@ -2,13 +2,10 @@
 ghost use Rattle.std.specs.Prelude.{◌≡◌, ◌&&◌, ◌==◌, ◌-◌, ◌<◌, ◌≤◌, ◌^◌};
 ghost use Rattle.std.specs.Int.{bit_at};
 ghost use Rattle.circuit.specs.Output.{modulo, operand};
-ghost use Rattle.circuit.specs.Signal.{sig_number, sig_width};
-ghost use Rattle.signal_words.specs.Values.{digits_in, AreInside};
 
 use crate::words::ones;
-use circuit::{Cell, Piece};
-use signal_words::{sig_width, sig_word};
-use sim_base::Bits;
+use circuit::Cell;
+use signal_words::SigWord;
 
 /// Whether both operands of a cell are signed.
 pub fn is_signed(cell: &Cell) -> bool
@@ -26,28 +23,45 @@ fn is_negative(number: u64, width: u32) -> bool
     width > 0 && (number >> (width - 1)) & 1 == 1
 }
 
-/// An operand, extended or cut to `to` bits.
+/// An operand, extended to `to` bits.
+#[inline]
+fn longer(number: u64, width: u32, signed: bool, to: u32) -> u64
+    requires longer { width < to }
+    requires below { number < 2 ^ width }
+    requires to { to ≤ 64 }
+    ensures { result ≡ modulo to (operand signed width number) }
+{
+    if signed && is_negative(number, width) {
+        number + (ones(to) - ones(width))
+    } else {
+        number
+    }
+}
+
+/// An operand, extended or cut to `to` bits. Most have as many already, and stay as they are.
+#[inline(always)]
 fn extended(number: u64, width: u32, signed: bool, to: u32) -> u64
     requires small { width ≤ 64 }
     requires below { number < 2 ^ width }
     requires to { to ≤ 64 }
     ensures { result ≡ modulo to (operand signed width number) }
 {
-    let low = number & ones(to);
-    if signed && width < to && is_negative(number, width) {
-        low + (ones(to) - ones(width))
+    if width == to {
+        number
+    } else if width > to {
+        number & ones(to)
     } else {
-        low
+        longer(number, width, signed, to)
     }
 }
 
-/// The operand that a signal of at most 64 bits stands for, extended or cut to `to` bits.
-pub fn operand_word(sig: &[Piece], nets: &[Bits], signed: bool, to: u32) -> u64
-    requires inside { AreInside nets.now sig.now }
-    requires small { sig_width sig.now ≤ 64 }
+/// The operand that a word stands for, extended or cut to `to` bits.
+#[inline(always)]
+pub fn operand_word(word: SigWord, signed: bool, to: u32) -> u64
+    requires small { word.width ≤ 64 }
+    requires below { word.number < 2 ^ word.width }
     requires to { to ≤ 64 }
-    ensures { result ≡ modulo to (operand signed (sig_width sig.now) (sig_number (digits_in nets.now) sig.now)) }
+    ensures { result ≡ modulo to (operand signed word.width word.number) }
 {
-    let width = sig_width(sig);
-    extended(sig_word(sig, nets), width, signed, to)
+    extended(word.number, word.width, signed, to)
 }

@@ -6,6 +6,7 @@ use crate::words::Words;
 use sim_base::Bits;
 
 /// Makes a word the number of a value of at most 64 bits, and tells whether that changed it.
+#[inline(always)]
 pub fn put_word(into: &mut Bits, word: u64) -> bool
     requires small { into.old.width ≤ 64 }
     requires below { word < 2 ^ into.old.width }

@@ -4,9 +4,8 @@ use Rattle.circuit.specs.Output.{modulo, inputs_of, left}
 use Rattle.circuit.specs.Signal.{sig_number, sig_width}
 use Rattle.signal_words.specs.Values.{digits_in}
 use Rattle.cell_wide.specs.Words.{low_of_operand}
-use Rattle.cell_wide.proofs.Outputs.{operand_read}
 use Rattle.cell_wide.proofs.Truths.{operands_equal}
-use Rattle.cell_wide.proofs.truth.are_equal.Goals as goal
+use Rattle.cell_wide.proofs.truth.are_equal_wide.Goals as goal
 
 pub returns : goal.returns
 returns c =
@@ -20,17 +19,4 @@ returns c =
     c.same.ensures
     ∙ ap (λ x. (x == low_of_operand c.operands-one.result.other.low c.operands-one.result.other.left c.operands-one.result.other.high.ones m)) (c.operands-one.ensures.one m)
     ∙ ap (λ x. (modulo m (left (inputs_of digits cell)) == x)) (c.operands-one.ensures.other m)
-    ∙ operands_equal (cell.a_signed && cell.b_signed) (sig_width cell.a) (sig_width cell.b) m (sig_number digits cell.a) (sig_number digits cell.b) a b la lb
-
-pub returns-then-width-le64 : goal.returns-then-width-le64
-returns-then-width-le64 c =
-    let digits = digits_in c.args.nets.now in
-    let cell = c.args.cell.now in
-    let m = c.max-width.result in
-    let a : sig_number digits cell.a < 2 ^ sig_width cell.a = subst (λ sig. sig_number digits sig < 2 ^ sig_width sig) c.as_slice-a.ensures (c.sig_width.ensures.below c.args.nets.now) in
-    let b : sig_number digits cell.b < 2 ^ sig_width cell.b = subst (λ sig. sig_number digits sig < 2 ^ sig_width sig) c.as_slice-b.ensures (c.sig_width-2.ensures.below c.args.nets.now) in
-    let la : sig_width cell.a ≤ m = omega (arith, c.max-width.ensures, c.sig_width.ensures.value ∙ ap sig_width c.as_slice-a.ensures) in
-    let lb : sig_width cell.b ≤ m = omega (arith, c.max-width.ensures, c.sig_width-2.ensures.value ∙ ap sig_width c.as_slice-b.ensures) in
-    ap (λ x. (x == c.operand_word-then-width-le64.result)) (operand_read digits m c.operand_word.result c.is_signed-signed.result _ _ cell.a c.operand_word.ensures c.is_signed-signed.ensures c.as_slice-a.ensures)
-    ∙ ap (λ x. (modulo m (left (inputs_of digits cell)) == x)) (operand_read digits m c.operand_word-then-width-le64.result c.is_signed-signed.result _ _ cell.b c.operand_word-then-width-le64.ensures c.is_signed-signed.ensures c.as_slice-b.ensures)
     ∙ operands_equal (cell.a_signed && cell.b_signed) (sig_width cell.a) (sig_width cell.b) m (sig_number digits cell.a) (sig_number digits cell.b) a b la lb

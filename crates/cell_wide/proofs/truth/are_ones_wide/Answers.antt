@@ -4,7 +4,7 @@ use Rattle.std.proofs.Math.Nat.{mod-eq_of_lt}
 use Rattle.sim_base.specs.BitValue.{BitValue}
 use Rattle.circuit.specs.Signal.{sig_number, sig_width}
 use Rattle.signal_words.specs.Values.{digits_in}
-use Rattle.cell_wide.proofs.truth.are_ones.Goals as goal
+use Rattle.cell_wide.proofs.truth.are_ones_wide.Goals as goal
 
 pub returns : goal.returns
 returns c =

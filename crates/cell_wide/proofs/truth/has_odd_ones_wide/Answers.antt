@@ -4,7 +4,7 @@ use Rattle.sim_base.specs.BitValue.{BitValue}
 use Rattle.circuit.specs.Signal.{sig_number, sig_width}
 use Rattle.signal_words.specs.Values.{digits_in}
 use Rattle.cell_wide.proofs.Truths.{ones_count}
-use Rattle.cell_wide.proofs.truth.has_odd_ones.Goals as goal
+use Rattle.cell_wide.proofs.truth.has_odd_ones_wide.Goals as goal
 
 pub returns : goal.returns
 returns c =

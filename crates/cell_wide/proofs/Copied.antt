@@ -1,0 +1,22 @@
+-- Signals of one word, and what is read of them.
+use Rattle.std.proofs.Common.{List, ◌≡◌, ℕ, ◌%◌, ◌^◌, sym, ◌∙◌, ap, subst, Bool, count_ones}
+use Rattle.std.specs.Prelude.{◌==◌}
+use Rattle.std.proofs.Math.Nat.{mod-eq_of_lt}
+use Rattle.sim_base.specs.BitValue.{BitValue}
+use Rattle.circuit.specs.Output.{ones}
+use Rattle.circuit.specs.Signal.{sig_number, sig_width}
+use Rattle.circuit.specs.declared.netlist.Piece.{Piece}
+use Rattle.signal_words.specs.Values.{digits_in, IsWordOf}
+use Rattle.cell_wide.specs.Words.{IsWritten}
+use Rattle.cell_wide.proofs.Truths.{ones_count}
+
+module _ (values : List BitValue) (sig : List Piece) (width number : ℕ) (i : IsWordOf values sig width number) where
+  -- all digits of the number are those of the signal's width
+  pub all_digits : sig_number (digits_in values) sig % 2 ^ sig_width sig ≡ number
+  all_digits = ap (λ n. n % 2 ^ sig_width sig) (sym i.number_is) ∙ ap (λ w. number % 2 ^ w) (sym i.width_is) ∙ mod-eq_of_lt i.below
+
+  pub word_copied : (old new : BitValue) (changed : Bool) → sig_width sig ≡ old.width → IsWritten number old new changed → IsWritten (sig_number (digits_in values) sig % 2 ^ old.width) old new changed
+  word_copied old new changed e h = subst (λ n. IsWritten n old new changed) (sym all_digits ∙ ap (λ w. sig_number (digits_in values) sig % 2 ^ w) e) h
+
+  pub word_ones : (count_ones number % 2 == 1) ≡ (ones (sig_width sig) (sig_number (digits_in values) sig) % 2 == 1)
+  word_ones = ap (λ n. (count_ones n % 2 == 1)) (sym all_digits) ∙ ap (λ n. (n % 2 == 1)) (sym (ones_count (sig_width sig) (sig_number (digits_in values) sig)))
