@@ -1,11 +1,12 @@
 -- Numbers written part by part, from the least digit on.
-use Rattle.std.proofs.Common.{◌≡◌, ℕ, ◌+◌, ◌-◌, ◌*◌, ◌/◌, ◌%◌, ◌^◌, ◌<◌, ◌≤◌, refl, sym, ◌∙◌, ap, arith, inl, inr, subst, Bool, true, false, not, ◌||◌, ◌&&◌}
+use Rattle.std.proofs.Common.{◌≡◌, ℕ, ◌+◌, ◌-◌, ◌*◌, ◌/◌, ◌%◌, ◌^◌, ◌<◌, ◌≤◌, refl, sym, ◌∙◌, ap, arith, inl, inr, subst, Bool, true, false, not, ◌||◌, ◌&&◌, bit_and}
+use Rattle.std.proofs.Math.Pow.{mod-mod-pow}
 use Rattle.std.proofs.lemmas.Bool.{eq-eqb, ne_eqb}
 use Rattle.std.proofs.lemmas.Bool.Decides.{eqb_tells}
 use Rattle.std.specs.Prelude.{◌==◌}
-use Rattle.std.proofs.lemmas.Nat.{mod_below, pow_pos, mod-pow-add, same_from_place, shr_below}
+use Rattle.std.proofs.lemmas.Nat.{mod_below, pow_pos, mod-pow-add, same_from_place, shr_below, and_mask}
 use Rattle.std.proofs.lemmas.Nat.Bits.{same_from_bits_below}
-use Rattle.std.proofs.Math.Nat.{mod-eq_of_lt, mod-one, div-one, pow-le-pow_right}
+use Rattle.std.proofs.Math.Nat.{mod-eq_of_lt, mod-one, div-one}
 use Rattle.std.specs.Int.{bit_at}
 use Rattle.sim_base.specs.BitValue.{digit_after_copy}
 use Rattle.sim_base.proofs.Words.{copied_in, copied_above}
@@ -98,8 +99,7 @@ wide_written w old mid new number part rest low high wide lt below fits p r bits
     let whole : number % 2 ^ w ≡ number = mod-eq_of_lt lt in
     (all.0 ∙ whole, all.1 ∙ ap (λ t. not (old == t)) whole)
 
-pub narrow_changed : (w old number before word : ℕ) → w ≤ 64 → old < 2 ^ w → number < 2 ^ w → before ≡ old / 2 ^ 0 % 2 ^ w → word ≡ number % 2 ^ 64 → not (before == word) ≡ not (old == number)
-narrow_changed w old number before word le lt below b e =
-    let grows : 2 ^ w ≤ 2 ^ 64 = pow-le-pow_right {n = 2} (omega arith) le in
-    let fits : number < 2 ^ 64 = omega arith in
-    ap (λ t. not (t == word)) (b ∙ ap (λ t. t % 2 ^ w) (div-one old) ∙ mod-eq_of_lt lt) ∙ ap (λ t. not (old == t)) (e ∙ mod-eq_of_lt fits)
+pub low_masked : (w number low ones : ℕ) → w ≤ 64 → low ≡ number % 2 ^ 64 → ones ≡ 2 ^ w - 1 → bit_and low ones ≡ number % 2 ^ w
+low_masked w number low ones le a b =
+    let s : 64 - w + w ≡ 64 = omega (arith, le) in
+    ap (bit_and low) b ∙ and_mask low w ∙ ap (λ x. x % 2 ^ w) a ∙ ap (λ k. number % 2 ^ k % 2 ^ w) (sym s) ∙ mod-mod-pow number (64 - w) w

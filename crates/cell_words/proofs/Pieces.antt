@@ -1,9 +1,7 @@
 -- What is read of the ports of a cell.
-use Rattle.std.proofs.Common.{◌≡◌, ℕ, ◌+◌, ◌-◌, ◌*◌, ◌/◌, ◌%◌, ◌^◌, ◌<◌, ◌≤◌, ◌∙◌, ap, arith, List, [], ◌∷◌, length, get_or}
+use Rattle.std.proofs.Common.{◌≡◌, ℕ, ◌+◌, ◌-◌, ◌*◌, ◌/◌, ◌%◌, ◌^◌, ◌<◌, ◌≤◌, ◌∙◌, ap, arith}
 use Rattle.std.proofs.lemmas.Nat.{div-add-mod', shr_below, shl_below}
 use Rattle.std.proofs.Math.Nat.{pow-le-pow_right, mod-eq_of_lt}
-use Rattle.circuit.specs.Signal.{Digits, piece_number, sig_number}
-use Rattle.circuit.specs.declared.netlist.Piece.{Piece}
 use Rattle.sim_base.specs.BitValue.{BitValue, bit_value}
 
 -- two words of a number
@@ -17,10 +15,3 @@ two_words w v low high S T le lt s l t h =
     let b : low ≡ v % 2 ^ 64 = l ∙ ap (λ x. x % 2 ^ 64) s in
     let c : v / 2 ^ 64 * 2 ^ 64 < 2 ^ 128 = shl_below (v / 2 ^ 64) 64 64 top in
     ap (λ x. x * 2 ^ 64 % 2 ^ 128 + low) a ∙ ap (λ x. x + low) (mod-eq_of_lt c) ∙ ap (λ x. v / 2 ^ 64 * 2 ^ 64 + x) b ∙ div-add-mod' v (2 ^ 64)
-
--- one piece alone
-pub one_piece : (d : Digits) (ps : List Piece) (p : Piece) → 1 ≤ length ps → length ps < 2 → p ≡ get_or ps 0 p → piece_number d p ≡ sig_number d ps
-unfolding sig_number
-one_piece d [] p some few e = absurd (omega arith)
-one_piece d (q ∷ []) p some few e = ap (piece_number d) e ∙ omega arith
-one_piece d (q ∷ r ∷ ps) p some few e = absurd (omega arith)

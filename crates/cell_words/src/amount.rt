@@ -8,7 +8,7 @@ ghost use Rattle.cell_words.specs.Shifts.{farthest, all_ones, is_below_zero, IsA
 use crate::shift::Amount;
 use crate::source::ones_word;
 use circuit::Piece;
-use signal_words::{SigReader, sig_bit, sig_width, sig_word};
+use signal_words::{SigReader, one_word, sig_bit, sig_width, word_of};
 use sim_base::Bits;
 
 /// No shift moves digits by more places: twice the largest width.
@@ -83,6 +83,7 @@ fn amount_of_word(width: u32, word: u64, signed: bool) -> Amount
 }
 
 /// The same of an operand of any width.
+#[inline(never)]
 fn amount_of_words(sig: &[Piece], nets: &[Bits], signed: bool) -> Amount
     requires inside { AreInside nets.now sig.now }
     requires fits { sig_width sig.now ≤ 65536 }
@@ -99,17 +100,29 @@ fn amount_of_words(sig: &[Piece], nets: &[Bits], signed: bool) -> Amount
     }
 }
 
+/// The same of an operand of any pieces.
+#[inline(never)]
+fn amount_of_pieces(sig: &[Piece], nets: &[Bits], signed: bool) -> Amount
+    requires inside { AreInside nets.now sig.now }
+    requires fits { sig_width sig.now ≤ 65536 }
+    ensures { IsAmount result (operand signed (sig_width sig.now) (sig_number (digits_in nets.now) sig.now)) }
+{
+    match word_of(sig, nets) {
+        Some(word) => amount_of_word(word.width, word.number, signed),
+        None => amount_of_words(sig, nets, signed),
+    }
+}
+
 /// The number of places that an operand asks for, in two's complement where signed.
+#[inline(always)]
 pub fn amount_of(sig: &[Piece], nets: &[Bits], signed: bool) -> Amount
     requires inside { AreInside nets.now sig.now }
     requires fits { sig_width sig.now ≤ 65536 }
     ensures { IsAmount result (operand signed (sig_width sig.now) (sig_number (digits_in nets.now) sig.now)) }
 {
-    let width = sig_width(sig);
-    if width <= 64 {
-        amount_of_word(width, sig_word(sig, nets), signed)
-    } else {
-        amount_of_words(sig, nets, signed)
+    match one_word(sig, nets) {
+        Some(word) => amount_of_word(word.width, word.number, signed),
+        None => amount_of_pieces(sig, nets, signed),
     }
 }
 

@@ -1,5 +1,5 @@
 //! Arithmetic cells and comparisons, by whole numbers.
-ghost use Rattle.std.specs.Prelude.{◌≡◌, ◌≢◌, ◌<◌, ◌≤◌, ◌^◌, ℤ, pos, true};
+ghost use Rattle.std.specs.Prelude.{◌≡◌, ◌≢◌, ◌<◌, ◌≤◌, ◌%◌, ◌^◌, ℤ, pos, true};
 ghost use Rattle.sim_base.specs.BitValue.{bit_value};
 ghost use Rattle.circuit.specs.Signal.{Digits, sig_value};
 ghost use Rattle.circuit.specs.Output.{Inputs, modulo, formula, truth, output};
@@ -7,10 +7,11 @@ ghost use Rattle.cell_words.specs.Kinds.{is_division, is_comparison, is_binary, 
 ghost use Rattle.cell_words.specs.Operands.{HasOperands, ReadsPorts};
 
 use crate::port::Port;
-use crate::whole::{Whole, low_ones};
+use crate::whole::Whole;
 use circuit::{Cell, Op};
 
 /// Quotients and remainders; a zero divisor gives 0.
+#[inline(never)]
 fn divided(op: Op, a: &Whole, b: &Whole) -> u128
     requires { is_division op ≡ true }
     ensures { (i : Inputs) → HasOperands i a.now b.now → result ≡ modulo 128 (formula op i) }
@@ -39,6 +40,7 @@ fn compared(op: Op, a: &Whole, b: &Whole) -> bool
 }
 
 /// What a cell with two operands computes, modulo 2^128.
+#[inline(always)]
 fn of_two(op: Op, a: &Whole, b: &Whole) -> u128
     requires { is_binary op ≡ true }
     ensures { (i : Inputs) → HasOperands i a.now b.now → result ≡ modulo 128 (formula op i) }
@@ -53,6 +55,7 @@ fn of_two(op: Op, a: &Whole, b: &Whole) -> u128
 }
 
 /// What an arithmetic cell computes, modulo 2^128.
+#[inline(always)]
 fn low_of(cell: &Cell, a: Port, b: Port) -> u128
     requires kind { is_arithmetic cell.now.op ≡ true }
     requires a_narrow { a.width ≤ 128 }
@@ -69,7 +72,8 @@ fn low_of(cell: &Cell, a: Port, b: Port) -> u128
     of_two(cell.op, &left, &Whole::operand(signed, b.width, b.number))
 }
 
-/// The number that an arithmetic cell gives for these values of its ports.
+/// A number whose lowest digits are those that an arithmetic cell gives for these values of its ports.
+#[inline(always)]
 pub fn result_of(cell: &Cell, a: Port, b: Port) -> u128
     requires kind { is_arithmetic cell.now.op ≡ true }
     requires narrow { cell.now.width ≤ 128 }
@@ -78,7 +82,7 @@ pub fn result_of(cell: &Cell, a: Port, b: Port) -> u128
     requires b_narrow { b.width ≤ 128 }
     requires b_below { b.number < 2 ^ b.width }
     ensures { (digits : Digits) → sig_value digits cell.now.a ≡ bit_value a.width a.number → sig_value digits cell.now.b ≡ bit_value b.width b.number
-        → result ≡ output digits cell.now }
+        → result % 2 ^ cell.now.width ≡ output digits cell.now }
 {
-    low_of(cell, a, b) & low_ones(cell.width)
+    low_of(cell, a, b)
 }

@@ -2,26 +2,47 @@
 ghost use Rattle.std.specs.Prelude.{◌≡◌, ◌+◌, ◌<◌, ◌≤◌, ◌^◌, ◌==◌, not, true, slice_set, slice_index_or};
 ghost use Rattle.sim_base.specs.BitValue.{bit_value, zeros};
 ghost use Rattle.circuit.specs.Output.{Inputs, inputs_of, operand, output};
-ghost use Rattle.circuit.specs.Signal.{sig_number, sig_width};
+ghost use Rattle.circuit.specs.Signal.{sig_number, sig_value, sig_width};
 ghost use Rattle.circuit.specs.Valid.{widths_fit, widths_of};
-ghost use Rattle.signal_words.specs.Values.{digits_in, AreInside, IsSignalOf};
+ghost use Rattle.signal_words.specs.Values.{digits_in, AreInside, IsSignalOf, IsWordOf};
 ghost use Rattle.signal_words.specs.Stores.{IsCellOf};
 ghost use Rattle.cell_words.specs.Kinds.{is_arithmetic, is_arithmetic_or_shift, is_shift};
 ghost use Rattle.cell_words.specs.Shifts.{places};
 
 use crate::amount::{amount_of, is_below_zero};
 use crate::arithmetic::result_of;
-use crate::port::port_of;
+use crate::port::{Port, port_of};
 use crate::shift::{moved_word, shift_of};
 use crate::source::{Source, fill};
-use crate::write::put_number;
+use crate::write::put_low;
 use circuit::{Cell, Op, Store};
-use signal_words::sig_width;
+use signal_words::{SigWord, one_word, sig_width, word_of};
 use sim_base::{Bits, Steps};
 use std::sync::ledger::Ledger;
 
-/// Arithmetic and comparisons, by whole numbers of up to 128 digits.
-fn arithmetic(cell: &Cell, nets: &[Bits], into: &mut Bits) -> bool
+/// Arithmetic and comparisons, by whole numbers of up to 128 digits. `a` and `b` are the values of the ports.
+#[inline(always)]
+fn computed(cell: &Cell, nets: &[Bits], a: Port, b: Port, into: &mut Bits) -> bool
+    requires kind { is_arithmetic cell.now.op ≡ true }
+    requires width { cell.now.width ≤ 128 }
+    requires a { sig_value (digits_in nets.now) cell.now.a ≡ bit_value a.width a.number }
+    requires a_narrow { a.width ≤ 128 }
+    requires a_below { a.number < 2 ^ a.width }
+    requires b { sig_value (digits_in nets.now) cell.now.b ≡ bit_value b.width b.number }
+    requires b_narrow { b.width ≤ 128 }
+    requires b_below { b.number < 2 ^ b.width }
+    requires into { into.old.width ≡ cell.now.width }
+    ensures value { into.new ≡ bit_value cell.now.width (output (digits_in nets.now) cell.now) }
+    ensures changed { result ≡ not (into.old.number == output (digits_in nets.now) cell.now) }
+{
+    let _ = nets;
+    let number = result_of(cell, a, b);
+    put_low(into, number)
+}
+
+/// The same of ports of any pieces. It stands apart so that the way for ports of one piece stays short.
+#[inline(never)]
+fn arithmetic_of_pieces(cell: &Cell, nets: &[Bits], into: &mut Bits) -> bool
     requires kind { is_arithmetic cell.now.op ≡ true }
     requires width { cell.now.width ≤ 128 }
     requires a { AreInside nets.now cell.now.a }
@@ -34,8 +55,28 @@ fn arithmetic(cell: &Cell, nets: &[Bits], into: &mut Bits) -> bool
 {
     let a = port_of(cell.a.as_slice(), nets);
     let b = port_of(cell.b.as_slice(), nets);
-    let number = result_of(cell, a, b);
-    put_number(into, number)
+    computed(cell, nets, a, b, into)
+}
+
+/// The same, and where each port is one piece of at most 64 bits without a loop.
+#[inline(always)]
+fn arithmetic(cell: &Cell, nets: &[Bits], into: &mut Bits) -> bool
+    requires kind { is_arithmetic cell.now.op ≡ true }
+    requires width { cell.now.width ≤ 128 }
+    requires a { AreInside nets.now cell.now.a }
+    requires a_narrow { sig_width cell.now.a ≤ 128 }
+    requires b { AreInside nets.now cell.now.b }
+    requires b_narrow { sig_width cell.now.b ≤ 128 }
+    requires into { into.old.width ≡ cell.now.width }
+    ensures value { into.new ≡ bit_value cell.now.width (output (digits_in nets.now) cell.now) }
+    ensures changed { result ≡ not (into.old.number == output (digits_in nets.now) cell.now) }
+{
+    if let Some(a) = one_word(cell.a.as_slice(), nets) {
+        if let Some(b) = one_word(cell.b.as_slice(), nets) {
+            return computed(cell, nets, Port::of(a), Port::of(b), into);
+        }
+    }
+    arithmetic_of_pieces(cell, nets, into)
 }
 
 /// Whether the second operand has a sign, which it has in two types alone.
@@ -50,6 +91,7 @@ fn is_amount_signed(cell: &Cell) -> bool
 }
 
 /// A shift of many words, word by word.
+#[inline(never)]
 fn shifted_words(cell: &Cell, nets: &[Bits], into: &mut Bits) -> bool
     requires kind { is_shift cell.now.op ≡ true }
     requires width { cell.now.width ≤ 65536 }
@@ -67,25 +109,56 @@ fn shifted_words(cell: &Cell, nets: &[Bits], into: &mut Bits) -> bool
     fill(into, &mut source)
 }
 
-/// A shift of one word.
-fn shifted_word(cell: &Cell, nets: &[Bits], into: &mut Bits) -> bool
+/// The output of a shift of one word.
+#[inline(always)]
+fn shifted_number(cell: &Cell, nets: &[Bits], a: SigWord) -> u128
     requires kind { is_shift cell.now.op ≡ true }
     requires width { cell.now.width ≤ 64 }
-    requires a { AreInside nets.now cell.now.a }
-    requires a_narrow { sig_width cell.now.a ≤ 64 }
+    requires a { IsWordOf nets.now cell.now.a a.width a.number }
+    requires b { IsSignalOf nets.now cell.now.b }
+    ensures value { result ≡ output (digits_in nets.now) cell.now }
+    ensures below { result < 2 ^ cell.now.width }
+{
+    let a = Port::of(a);
+    let negative = a.is_below_zero(cell.a_signed);
+    let amount = amount_of(cell.b.as_slice(), nets, is_amount_signed(cell));
+    let shift = shift_of(cell, a.width, negative, amount);
+    moved_word(shift, a, cell.width)
+}
+
+/// A shift of one word.
+#[inline(always)]
+fn shifted_word(cell: &Cell, nets: &[Bits], a: SigWord, into: &mut Bits) -> bool
+    requires kind { is_shift cell.now.op ≡ true }
+    requires width { cell.now.width ≤ 64 }
+    requires a { IsWordOf nets.now cell.now.a a.width a.number }
     requires b { IsSignalOf nets.now cell.now.b }
     requires into { into.old.width ≡ cell.now.width }
     ensures value { into.new ≡ bit_value cell.now.width (output (digits_in nets.now) cell.now) }
     ensures changed { result ≡ not (into.old.number == output (digits_in nets.now) cell.now) }
 {
-    let a = port_of(cell.a.as_slice(), nets);
-    let negative = a.is_below_zero(cell.a_signed);
-    let amount = amount_of(cell.b.as_slice(), nets, is_amount_signed(cell));
-    let shift = shift_of(cell, a.width, negative, amount);
-    let number = moved_word(shift, a, cell.width);
-    put_number(into, number)
+    let number = shifted_number(cell, nets, a);
+    put_low(into, number)
 }
 
+/// A shift of a first operand of any pieces.
+#[inline(never)]
+fn shifted_pieces(cell: &Cell, nets: &[Bits], into: &mut Bits) -> bool
+    requires kind { is_shift cell.now.op ≡ true }
+    requires width { cell.now.width ≤ 65536 }
+    requires a { IsSignalOf nets.now cell.now.a }
+    requires b { IsSignalOf nets.now cell.now.b }
+    requires into { into.old.width ≡ cell.now.width }
+    ensures value { into.new ≡ bit_value cell.now.width (output (digits_in nets.now) cell.now) }
+    ensures changed { result ≡ not (into.old.number == output (digits_in nets.now) cell.now) }
+{
+    match word_of(cell.a.as_slice(), nets) {
+        Some(a) if cell.width <= 64 => shifted_word(cell, nets, a, into),
+        _ => shifted_words(cell, nets, into),
+    }
+}
+
+#[inline(always)]
 fn shifted(cell: &Cell, nets: &[Bits], into: &mut Bits) -> bool
     requires kind { is_shift cell.now.op ≡ true }
     requires width { cell.now.width ≤ 65536 }
@@ -95,10 +168,9 @@ fn shifted(cell: &Cell, nets: &[Bits], into: &mut Bits) -> bool
     ensures value { into.new ≡ bit_value cell.now.width (output (digits_in nets.now) cell.now) }
     ensures changed { result ≡ not (into.old.number == output (digits_in nets.now) cell.now) }
 {
-    if cell.width <= 64 && sig_width(cell.a.as_slice()) <= 64 {
-        shifted_word(cell, nets, into)
-    } else {
-        shifted_words(cell, nets, into)
+    match one_word(cell.a.as_slice(), nets) {
+        Some(a) if cell.width <= 64 => shifted_word(cell, nets, a, into),
+        _ => shifted_pieces(cell, nets, into),
     }
 }
 

@@ -5,7 +5,7 @@ ghost use Rattle.signal_words.specs.Values.{digits_in, AreInside};
 ghost use Rattle.cell_words.specs.Shifts.{is_below_zero};
 
 use circuit::Piece;
-use signal_words::{SigReader, piece_width, piece_word, sig_width, sig_word};
+use signal_words::{SigReader, SigWord, sig_width, sig_word};
 use sim_base::Bits;
 
 /// The value of a port of at most 128 bits.
@@ -17,6 +17,18 @@ pub struct Port {
 }
 
 impl Port {
+    /// The value of a port of at most 64 bits.
+    #[inline(always)]
+    pub fn of(word: SigWord) -> Port
+        ensures width { result.width ≡ word.width }
+        ensures number { result.number ≡ word.number }
+    {
+        Port {
+            width: word.width,
+            number: u128::from(word.number),
+        }
+    }
+
     /// Whether it stands for a number below 0, in two's complement where signed.
     pub fn is_below_zero(self, signed: bool) -> bool
         requires narrow { self.width ≤ 128 }
@@ -27,9 +39,8 @@ impl Port {
     }
 }
 
-/// The value of a port of any pieces. It stands apart so that `port_of` stays small.
-#[inline(never)]
-fn port_of_pieces(sig: &[Piece], nets: &[Bits]) -> Port
+/// The value of a port of any pieces.
+pub fn port_of(sig: &[Piece], nets: &[Bits]) -> Port
     requires inside { AreInside nets.now sig.now }
     requires narrow { sig_width sig.now ≤ 128 }
     ensures width { result.width ≡ sig_width sig.now }
@@ -46,23 +57,4 @@ fn port_of_pieces(sig: &[Piece], nets: &[Bits]) -> Port
     let high = reader.take(64);
     let number = (u128::from(high) << 64) + u128::from(low);
     Port { width, number }
-}
-
-/// The value of a port. Most ports are one piece of one word, which is read without a loop.
-#[inline]
-pub fn port_of(sig: &[Piece], nets: &[Bits]) -> Port
-    requires inside { AreInside nets.now sig.now }
-    requires narrow { sig_width sig.now ≤ 128 }
-    ensures width { result.width ≡ sig_width sig.now }
-    ensures number { result.number ≡ sig_number (digits_in nets.now) sig.now }
-    ensures below { result.number < 2 ^ result.width }
-{
-    if let [piece] = sig {
-        let width = piece_width(piece);
-        if width <= 64 {
-            let number = u128::from(piece_word(piece, nets));
-            return Port { width, number };
-        }
-    }
-    port_of_pieces(sig, nets)
 }

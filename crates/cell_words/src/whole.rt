@@ -38,6 +38,7 @@ pub fn low_ones(n: u32) -> u128
 
 impl Whole {
     /// The number that `width` digits stand for, in two's complement where signed.
+    #[inline(always)]
     pub fn operand(signed: bool, width: u32, number: u128) -> Whole
         requires narrow { width ≤ 128 }
         requires below { number < 2 ^ width }

@@ -3,6 +3,8 @@ ghost use Rattle.std.specs.Prelude.{◌≡◌, ℕ, ◌+◌, ◌/◌, ◌%◌, �
 ghost use Rattle.std.specs.Int.{bit_at};
 ghost use Rattle.sim_base.specs.BitValue.{bit_value, digit_after_copy};
 
+use crate::source::ones_word;
+use crate::whole::low_ones;
 use sim_base::Bits;
 
 /// Writes `word`, which has at most `n` digits, to the bits from `at` on, and answers whether that
@@ -28,6 +30,8 @@ pub fn low_word(number: u128) -> u64
     (number & u128::from(u64::MAX)) as u64
 }
 
+/// Makes `number` the number of a value of more than 64 bits, and answers whether that changed it.
+#[inline(never)]
 fn put_wide(into: &mut Bits, number: u128) -> bool
     requires wide { 64 < into.old.width }
     requires narrow { into.old.width ≤ 128 }
@@ -41,19 +45,33 @@ fn put_wide(into: &mut Bits, number: u128) -> bool
     low | high
 }
 
-/// Makes `number` the number of a value of at most 128 bits, and answers whether that changed it.
-pub fn put_number(into: &mut Bits, number: u128) -> bool
-    requires narrow { into.old.width ≤ 128 }
-    requires below { number < 2 ^ into.old.width }
-    ensures value { into.new ≡ bit_value into.old.width number }
-    ensures changed { result ≡ not (into.old.number == number) }
+/// Makes `word` the number of a value of at most 64 bits, and answers whether that changed it.
+#[inline(always)]
+fn put_word(into: &mut Bits, word: u64) -> bool
+    requires narrow { into.old.width ≤ 64 }
+    requires below { word < 2 ^ into.old.width }
+    ensures value { into.new ≡ bit_value into.old.width word }
+    ensures changed { result ≡ not (into.old.number == word) }
 {
     let width = into.width();
-    if width > 64 {
-        return put_wide(into, number);
-    }
     let before = into.field(0, width);
-    let word = low_word(number);
     into.put(word);
     before != word
+}
+
+/// Writes as many of the lowest digits of `number` as a value of at most 128 bits has, and answers whether
+/// that changed it.
+#[inline(always)]
+pub fn put_low(into: &mut Bits, number: u128) -> bool
+    requires { into.old.width ≤ 128 }
+    ensures value { into.new ≡ bit_value into.old.width (number % 2 ^ into.old.width) }
+    ensures changed { result ≡ not (into.old.number == number % 2 ^ into.old.width) }
+{
+    let width = into.width();
+    if width <= 64 {
+        let word = low_word(number) & ones_word(width);
+        put_word(into, word)
+    } else {
+        put_wide(into, number & low_ones(width))
+    }
 }

@@ -1,5 +1,4 @@
-use Rattle.std.proofs.Common.{◌∙◌, ◌%◌, ◌^◌, bit_and, ap, refl}
-use Rattle.std.proofs.lemmas.Nat.{and_mask}
+use Rattle.std.proofs.Common.{◌∙◌, ◌%◌, ◌^◌, ap, refl}
 use Rattle.circuit.specs.Output.{formula, inputs_of}
 use Rattle.cell_words.proofs.Modulo.{modulo_lower}
 use Rattle.cell_words.proofs.arithmetic.result_of.Goals as goal
@@ -8,7 +7,5 @@ pub returns : goal.returns
 returns c digits a b =
     let width = c.args.cell.now.width in
     let i = inputs_of digits c.args.cell.now in
-    ap (bit_and c.low_of.result) c.low_ones.ensures
-    ∙ and_mask c.low_of.result width
-    ∙ ap (λ x. x % 2 ^ width) (c.low_of.ensures i (record { a_signed = refl; b_signed = refl; first = a; second = b }))
+    ap (λ x. x % 2 ^ width) (c.low_of.ensures i (record { a_signed = refl; b_signed = refl; first = a; second = b }))
     ∙ modulo_lower width 128 (formula c.args.cell.now.op i) c.requires.narrow

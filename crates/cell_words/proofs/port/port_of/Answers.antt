@@ -1,9 +1,12 @@
-use Rattle.std.proofs.Common.{◌∙◌}
+use Rattle.std.proofs.Common.{ap, ◌∙◌}
+use Rattle.circuit.specs.Signal.{sig_number, sig_width}
 use Rattle.signal_words.specs.Values.{digits_in}
-use Rattle.cell_words.proofs.Pieces.{one_piece}
+use Rattle.sim_base.specs.BitValue.{BitValue}
+use Rattle.cell_words.proofs.Pieces.{two_words}
 use Rattle.cell_words.proofs.port.port_of.Goals as goal
 
-pub returns-then-width-le64-clause-number : goal.returns-then-width-le64-clause-number
-returns-then-width-le64-clause-number c =
-    c.from-number.ensures ∙ c.piece_word.ensures.value
-    ∙ one_piece (digits_in c.args.nets.now) c.args.sig.now c.piece-item.result c.in-len1.len_at_least c.in-len1.len_below c.piece-item.is
+pub returns-clause-number : goal.returns-clause-number
+returns-clause-number c =
+    two_words (sig_width c.args.sig.now) (sig_number (digits_in c.args.nets.now) c.args.sig.now) c.from-2.result c.from.result c.new-reader.result c.take-low.new.self
+    c.requires.narrow (c.sig_width-width.ensures.below c.args.nets.now) (ap (λ (v : BitValue). v.number) c.new-reader.ensures)
+    (c.from-2.ensures ∙ c.take-low.ensures.word) c.take-low.ensures.rest (c.from.ensures ∙ c.take-high.ensures.word)
