@@ -84,6 +84,16 @@ taken_end values ps at n width number word taken r none =
       rest = same_value (sig_width ps - at) (width - n) (sig_number (digits_in values) ps / 2 ^ at) (number / 2 ^ n) (omega (arith, r.wide, r.most, width_at_end ps at none)) (z ∙ rest_read number 0 word n f);
     }
 
+-- some bits of the first piece are taken
+module _ (values : List BitValue) (ps : List Piece) (p : Piece) (qs : List Piece) (at n width number part : ℕ) (e : ps ≡ p ∷ qs) (le : at + n ≤ piece_width p) (is : number ≡ sig_number (digits_in values) ps / 2 ^ at) where
+  pub first_taken : part ≡ piece_number (digits_in values) p / 2 ^ at % 2 ^ n → part ≡ number % 2 ^ n
+  first_taken h = h ∙ first_field values ps p qs at e n le ∙ ap (λ x. x % 2 ^ n) (sym is)
+
+  pub first_left : width ≡ sig_width ps - at → bit_value (sig_width ps - (at + n)) (sig_number (digits_in values) ps / 2 ^ (at + n)) ≡ bit_value (width - n) (number / 2 ^ n)
+  first_left w =
+      same_value (sig_width ps - (at + n)) (width - n) (sig_number (digits_in values) ps / 2 ^ (at + n)) (number / 2 ^ n) (omega (arith, w))
+      (left_inside values ps p qs at e n ∙ ap (λ x. x / 2 ^ n) (sym is))
+
 -- ---- bits that are passed over
 
 -- `more` of the `n` bits are still to be passed

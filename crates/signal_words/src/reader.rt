@@ -47,7 +47,27 @@ impl<'a> SigReader<'a> {
     }
 
     /// Reads `n` bits, at most 64. Beyond the end they are 0.
+    #[inline]
     pub fn take(&mut self, n: u32) -> u64
+        requires { n ≤ 64 }
+        ensures word { result ≡ self.old.number % 2 ^ n }
+        ensures rest { self.new ≡ bit_value (self.old.width - n) (self.old.number / 2 ^ n) }
+    {
+        if let Some((piece, _)) = self.pieces.split_first() {
+            let at = self.at;
+            let left = piece_width(piece) - at;
+            if n < left {
+                let word = piece_field(piece, self.nets, at, n);
+                self.at = at + n;
+                return word;
+            }
+        }
+        self.take_across(n)
+    }
+
+    /// The same where the first piece may end.
+    #[inline(never)]
+    fn take_across(&mut self, n: u32) -> u64
         requires { n ≤ 64 }
         ensures word { result ≡ self.old.number % 2 ^ n }
         ensures rest { self.new ≡ bit_value (self.old.width - n) (self.old.number / 2 ^ n) }
