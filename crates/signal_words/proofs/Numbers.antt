@@ -1,6 +1,7 @@
 -- Numbers that are put together from parts.
-use Rattle.std.proofs.Common.{◌≡◌, ℕ, zero, suc, ◌+◌, ◌*◌, ◌/◌, ◌%◌, ◌^◌, ◌<◌, ◌≤◌, sym, ◌∙◌, ap, subst, arith, lit<}
+use Rattle.std.proofs.Common.{◌≡◌, ℕ, zero, suc, ◌+◌, ◌-◌, ◌*◌, ◌/◌, ◌%◌, ◌^◌, ◌<◌, ◌≤◌, sym, ◌∙◌, ap, subst, arith, lit<}
 use Rattle.std.proofs.Math.Nat.{mod-eq_of_lt, pow-le-pow_right}
+use Rattle.std.proofs.Math.Pow.{field, mod-mod-pow}
 use Rattle.std.specs.Int.{bit_at}
 use Rattle.std.proofs.lemmas.Nat.{mod-pow-add, shr-shr, shr_split, pow-add, mul-add-lt, shl_whole, shr_high, mod_low, mod_below, pow_pos}
 use Rattle.std.proofs.lemmas.Nat.Bits.{same_from_bits_below, bit_at_cat_low}
@@ -100,3 +101,24 @@ end_read number word taken n r le =
   where
     low : (a b : ℕ) → word < a → a ≤ b → word < b
     low a b lt le = omega (arith, lt, le)
+
+-- ---- a field that is read from its least digit on
+
+-- its lowest digits
+pub run_word : (x at left n : ℕ) → n ≤ left → x / 2 ^ at % 2 ^ n ≡ x / 2 ^ at % 2 ^ left % 2 ^ n
+run_word x at left n le =
+    let e : left - n + n ≡ left = omega arith in
+    sym (ap (λ k. x / 2 ^ at % 2 ^ k % 2 ^ n) (sym e) ∙ mod-mod-pow (x / 2 ^ at) (left - n) n)
+
+-- and those above
+pub run_rest : (x at left n : ℕ) → n ≤ left → x / 2 ^ (at + n) % 2 ^ (left - n) ≡ x / 2 ^ at % 2 ^ left / 2 ^ n
+run_rest x at left n le =
+    let e : left - n + n ≡ left = omega arith in
+    ap (λ y. y % 2 ^ (left - n)) (sym (shr-shr x at n)) ∙ sym (field (x / 2 ^ at) (left - n) n) ∙ ap (λ k. x / 2 ^ at % 2 ^ k / 2 ^ n) e
+
+-- all of them
+pub run_below : (x at left n : ℕ) → left < n → x / 2 ^ at % 2 ^ left < 2 ^ n
+run_below x at left n lt =
+    let p : 2 ^ left ≤ 2 ^ n = pow-le-pow_right {n = 2} (lit< tt) {i = left} {j = n} (omega (arith, lt)) in
+    let b : x / 2 ^ at % 2 ^ left < 2 ^ left = mod_below (x / 2 ^ at) (2 ^ left) (pow_pos left) in
+    omega (arith, p, b)
