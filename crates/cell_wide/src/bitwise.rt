@@ -1,7 +1,7 @@
 //! Cells that work digit by digit.
 ghost use Rattle.std.specs.Prelude.{◌≡◌, ℕ, ◌<◌, ◌≤◌, ◌^◌, true, IfSome};
 ghost use Rattle.sim_base.specs.BitValue.{bit_value};
-ghost use Rattle.circuit.specs.Output.{inputs_of, left, modulo, output, right};
+ghost use Rattle.circuit.specs.Output.{first, inputs_of, left, modulo, output, right};
 ghost use Rattle.circuit.specs.Signal.{Digits, sig_value};
 ghost use Rattle.signal_words.specs.Values.{digits_in, IsSignalOf, IsWordOf};
 ghost use Rattle.cell_wide.specs.Kinds.{IsReady, is_bitwise, is_unary};
@@ -9,10 +9,10 @@ ghost use Rattle.cell_wide.specs.Words.{IsWritten, low_of_operand};
 
 use crate::operand::{Operand, operand};
 use crate::word::{is_signed, operand_word};
-use crate::words::{Bitwise, Inverse, Pair, ones};
+use crate::words::{Bitwise, Inverse, Pair, Words, ones};
 use crate::write::{put_word, write};
 use circuit::{Cell, Op};
-use signal_words::SigWord;
+use signal_words::{SigWord, one_piece};
 use sim_base::Bits;
 
 /// The output of a unary cell whose port and output have at most 64 bits.
@@ -48,12 +48,27 @@ pub fn unary(cell: &Cell, nets: &[Bits], a: Option<SigWord>, into: &mut Bits) ->
 
 /// The same for a cell of any width.
 #[inline(never)]
-fn unary_wide(cell: &Cell, nets: &[Bits], into: &mut Bits) -> bool
+fn unary_wide<'a>(cell: &'a Cell, nets: &'a [Bits], into: &mut Bits) -> bool
     requires kind { is_unary cell.now.op ≡ true }
     requires ready { IsReady nets.now cell.now into.old }
     ensures { IsWritten (output (digits_in nets.now) cell.now) into.old into.new result }
 {
-    let mut digits = operand(cell.a.as_slice(), nets, cell.a_signed);
+    let a = cell.a.as_slice();
+    match one_piece(a, nets) {
+        Some(digits) if digits.width() >= cell.width => unary_by(cell, nets, digits, into),
+        _ => unary_by(cell, nets, operand(a, nets, cell.a_signed), into),
+    }
+}
+
+/// The same for the digits of the operand.
+fn unary_by<A: Words>(cell: &Cell, nets: &[Bits], digits: A, into: &mut Bits) -> bool
+    requires kind { is_unary cell.now.op ≡ true }
+    requires into { into.old.width ≡ cell.now.width }
+    requires digits { A.low digits into.old.width ≡ modulo into.old.width (first (inputs_of (digits_in nets.now) cell.now)) }
+    ensures { IsWritten (output (digits_in nets.now) cell.now) into.old into.new result }
+{
+    let _ = nets;
+    let mut digits = digits;
     match cell.op {
         Op::Not => write(&mut Inverse { of: digits }, into),
         _ => write(&mut digits, into),
@@ -123,17 +138,63 @@ pub fn bitwise(
 
 /// The same for a cell of any width.
 #[inline(never)]
-fn bitwise_wide(cell: &Cell, nets: &[Bits], into: &mut Bits) -> bool
+fn bitwise_wide<'a>(cell: &'a Cell, nets: &'a [Bits], into: &mut Bits) -> bool
     requires kind { is_bitwise cell.now.op ≡ true }
     requires ready { IsReady nets.now cell.now into.old }
     ensures { IsWritten (output (digits_in nets.now) cell.now) into.old into.new result }
 {
+    if let Some(a) = one_piece(cell.a.as_slice(), nets) {
+        if let Some(b) = one_piece(cell.b.as_slice(), nets) {
+            if a.width() >= cell.width && b.width() >= cell.width {
+                return bitwise_by(cell, nets, a, b, into);
+            }
+        }
+    }
+    bitwise_of_pieces(cell, nets, into)
+}
+
+/// The same for operands of any pieces.
+#[inline(never)]
+fn bitwise_of_pieces<'a>(cell: &'a Cell, nets: &'a [Bits], into: &mut Bits) -> bool
+    requires kind { is_bitwise cell.now.op ≡ true }
+    requires ready { IsReady nets.now cell.now into.old }
+    ensures { IsWritten (output (digits_in nets.now) cell.now) into.old into.new result }
+{
+    let Pair { one, other, .. } = operands(cell, nets, Bitwise::Xor);
+    bitwise_by(cell, nets, one, other, into)
+}
+
+/// The same for the digits of the operands.
+fn bitwise_by<A: Words, B: Words>(
+    cell: &Cell,
+    nets: &[Bits],
+    one: A,
+    other: B,
+    into: &mut Bits,
+) -> bool
+    requires kind { is_bitwise cell.now.op ≡ true }
+    requires into { into.old.width ≡ cell.now.width }
+    requires one { A.low one into.old.width ≡ modulo into.old.width (left (inputs_of (digits_in nets.now) cell.now)) }
+    requires other { B.low other into.old.width ≡ modulo into.old.width (right (inputs_of (digits_in nets.now) cell.now)) }
+    ensures { IsWritten (output (digits_in nets.now) cell.now) into.old into.new result }
+{
+    let _ = nets;
     match cell.op {
-        Op::And => write(&mut operands(cell, nets, Bitwise::And), into),
-        Op::Or => write(&mut operands(cell, nets, Bitwise::Or), into),
-        Op::Xor => write(&mut operands(cell, nets, Bitwise::Xor), into),
+        Op::And => {
+            let by = Bitwise::And;
+            write(&mut Pair { one, other, by }, into)
+        }
+        Op::Or => {
+            let by = Bitwise::Or;
+            write(&mut Pair { one, other, by }, into)
+        }
+        Op::Xor => {
+            let by = Bitwise::Xor;
+            write(&mut Pair { one, other, by }, into)
+        }
         _ => {
-            let of = operands(cell, nets, Bitwise::Xor);
+            let by = Bitwise::Xor;
+            let of = Pair { one, other, by };
             write(&mut Inverse { of }, into)
         }
     }

@@ -12,7 +12,7 @@ use crate::operand::is_zero;
 use crate::words::{Bitwise, Chain, Fill, Inverse, Pair};
 use crate::write::{put_word, write};
 use circuit::{Cell, Op, Piece};
-use signal_words::{SigReader, one_word, sig_field, sig_width, sig_word, word_of};
+use signal_words::{SigReader, one_piece, one_word, sig_field, sig_width, sig_word, word_of};
 use sim_base::Bits;
 
 /// Writes the bits of a signal from its bit `at` on.
@@ -51,6 +51,20 @@ fn copy_pieces(sig: &[Piece], nets: &[Bits], into: &mut Bits) -> bool
 {
     match word_of(sig, nets) {
         Some(word) => put_word(into, word.number),
+        None => copy_words(sig, nets, into),
+    }
+}
+
+/// The same, word by word.
+fn copy_words<'a>(sig: &'a [Piece], nets: &'a [Bits], into: &mut Bits) -> bool
+    requires { IsSignalOf nets.now sig.now }
+    ensures { IsWritten (sig_number (digits_in nets.now) sig.now % 2 ^ into.old.width) into.old into.new result }
+{
+    match one_piece(sig, nets) {
+        Some(digits) => {
+            let mut digits = digits;
+            write(&mut digits, into)
+        }
         None => write(&mut SigReader::new(sig, nets), into),
     }
 }

@@ -2,7 +2,7 @@
 ghost use Rattle.std.specs.Prelude.{◌≡◌, ℕ, ◌-◌, ◌<◌, ◌≤◌, ◌^◌};
 ghost use Rattle.cell_wide.specs.Words.{Passes};
 
-use signal_words::SigReader;
+use signal_words::{PieceReader, SigReader};
 
 /// A number that is read from its least digit on. It has no end: a signal goes on with zeros.
 pub trait Words: Drop {
@@ -26,6 +26,20 @@ impl<'a> Words for SigReader<'a> {
 
     ghost below = { λ s w. number_below s.number w };
 
+    fn next(&mut self, n: u32) -> u64 {
+        self.take(n)
+    }
+}
+
+impl<'a> Words for PieceReader<'a> {
+    ghost use Rattle.cell_wide.specs.Words.{low_of_number};
+    ghost use Rattle.cell_wide.specs.Below.{number_below};
+
+    ghost low = { λ s. low_of_number s.number };
+
+    ghost below = { λ s w. number_below s.number w };
+
+    #[inline(always)]
     fn next(&mut self, n: u32) -> u64 {
         self.take(n)
     }
@@ -94,6 +108,7 @@ impl<A: Words> Words for Inverse<A> {
 
     ghost below = { λ s w. inverse_below (A.low s.of) w };
 
+    #[inline(always)]
     fn next(&mut self, n: u32) -> u64 {
         ones(n) - self.of.next(n)
     }
@@ -123,6 +138,7 @@ impl<A: Words, B: Words> Words for Pair<A, B> {
 
     ghost below = { λ s w. combined_below s.by (A.low s.one w) (B.low s.other w) w (A.below s.one w) (B.below s.other w) };
 
+    #[inline(always)]
     fn next(&mut self, n: u32) -> u64 {
         let one = self.one.next(n);
         let other = self.other.next(n);

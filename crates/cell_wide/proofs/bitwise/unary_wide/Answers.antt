@@ -1,13 +1,17 @@
-use Rattle.std.proofs.Common.{◌∙◌, ap}
-use Rattle.circuit.specs.Output.{modulo, operand, output}
-use Rattle.circuit.specs.Signal.{sig_number, sig_width}
+use Rattle.std.proofs.Common.{◌≡◌, ◌^◌, ◌<◌, subst, arith}
+use Rattle.std.specs.Prelude.{IfSome}
+use Rattle.sim_base.specs.BitValue.{BitValue}
+use Rattle.circuit.specs.Signal.{sig_value}
 use Rattle.signal_words.specs.Values.{digits_in}
-use Rattle.cell_wide.proofs.Outputs.{same_written, not_output}
+use Rattle.cell_wide.proofs.Copied.{piece_operand}
 use Rattle.cell_wide.proofs.bitwise.unary_wide.Goals as goal
 
-pub returns-in-Not : goal.returns-in-Not
-returns-in-Not c =
+pub unary_by-requires-clause-digits : goal.unary_by-requires-clause-digits
+unary_by-requires-clause-digits c =
     let digits = digits_in c.args.nets.now in
-    let width = c.args.into.now.width in
-    same_written _ (output digits c.args.cell.now) c.args.into.now c.write.new.into c.write.result
-    (not_output digits c.args.cell.now width _ c.in-Not.is c.requires.ready.into_width (c.operand-digits.ensures width ∙ ap (λ sig. modulo width (operand c.args.cell.now.a_signed (sig_width sig) (sig_number digits sig))) c.as_slice.ensures)) c.write.ensures
+    let cell = c.args.cell.now in
+    let sig = c.as_slice-a.result.now in
+    piece_operand digits cell.a_signed sig cell.a c.in-Some.digits c.args.into.now.width
+    (subst (λ o. IfSome o (λ (r : BitValue). r ≡ sig_value digits sig)) c.in-Some.is c.one_piece.ensures.value)
+    (subst (λ o. IfSome o (λ (r : BitValue). r.number < 2 ^ r.width)) c.in-Some.is c.one_piece.ensures.below)
+    (omega (arith, c.if-width-cell.true, c.width.ensures, c.requires.ready.into_width)) c.as_slice-a.ensures
