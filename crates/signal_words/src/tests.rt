@@ -1,6 +1,8 @@
 ghost use Rattle.std.specs.Prelude.{◌≡◌, IfOk, ◌≤◌};
 
-use crate::{SigReader, sig_bit, sig_field, sig_width, sig_word};
+use crate::{
+    SigReader, SigWord, one_piece, one_word, sig_bit, sig_field, sig_width, sig_word, word_of,
+};
 use circuit::Piece;
 use sim_base::{Bits, NoMemory};
 use std::alloc::Global;
@@ -93,5 +95,88 @@ fn a_wide_signal_is_read_from_its_least_bit_on(rt: HostRuntime) -> Result<(), Fa
     assert_eq!(rt; reader.take(64), 0);
     reader.skip(1000);
     assert_eq!(rt; reader.take(1), 0);
+    Ok(())
+}
+
+/// The width and the number of a word, and a width that no word has where there is none.
+fn told(word: Option<SigWord>) -> (u32, u64) {
+    match word {
+        Some(word) => (word.width, word.number),
+        None => (65, 0),
+    }
+}
+
+#[test]
+fn one_piece_of_one_word_is_told_from_others(rt: HostRuntime) -> Result<(), Fail> {
+    let alloc = rt.alloc();
+    let nets = [value(alloc, 16, 0xA5C3)?, value(alloc, 100, 1)?];
+    let whole = [Piece::Part {
+        net: 0,
+        at: 0,
+        width: 16,
+    }];
+    assert_eq!(rt; told(one_word(&whole, &nets)), (16, 0xA5C3));
+    let part = [Piece::Part {
+        net: 0,
+        at: 4,
+        width: 8,
+    }];
+    assert_eq!(rt; told(one_word(&part, &nets)), (8, 0x5C));
+    let constant = [Piece::Const(value(alloc, 4, 0xA)?)];
+    assert_eq!(rt; told(one_word(&constant, &nets)), (4, 0xA));
+    assert_eq!(rt; told(one_word(&[], &nets)), (0, 0));
+    let wide = [Piece::Part {
+        net: 1,
+        at: 0,
+        width: 65,
+    }];
+    assert!(rt; one_word(&wide, &nets).is_none());
+    assert!(rt; word_of(&wide, &nets).is_none());
+    Ok(())
+}
+
+#[test]
+fn pieces_of_one_word_are_read_together(rt: HostRuntime) -> Result<(), Fail> {
+    let alloc = rt.alloc();
+    let nets = [value(alloc, 16, 0xA5C3)?];
+    let sig = [
+        Piece::Part {
+            net: 0,
+            at: 4,
+            width: 8,
+        },
+        Piece::Part {
+            net: 0,
+            at: 0,
+            width: 4,
+        },
+    ];
+    assert!(rt; one_word(&sig, &nets).is_none());
+    assert!(rt; one_piece(&sig, &nets).is_none());
+    assert_eq!(rt; told(word_of(&sig, &nets)), (12, 0x35C));
+    Ok(())
+}
+
+#[test]
+fn one_piece_is_read_from_its_least_bit_on(rt: HostRuntime) -> Result<(), Fail> {
+    let alloc = rt.alloc();
+    let nets = [value(alloc, 100, 0xFFFF_0000_FFFF_0001)?];
+    let sig = [Piece::Part {
+        net: 0,
+        at: 12,
+        width: 80,
+    }];
+    match one_piece(&sig, &nets) {
+        Some(reader) => {
+            let mut reader = reader;
+            assert_eq!(rt; reader.width(), 80);
+            assert_eq!(rt; reader.take(8), 0xF0);
+            assert_eq!(rt; reader.take(64), 0xFFF_F000_0FFF);
+            assert_eq!(rt; reader.width(), 8);
+            assert_eq!(rt; reader.take(64), 0);
+            assert_eq!(rt; reader.width(), 0);
+        }
+        None => assert!(rt; false),
+    }
     Ok(())
 }
