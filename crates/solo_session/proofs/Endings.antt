@@ -1,5 +1,5 @@
 -- What a session leaves as it ends, from what its client was served and told.
-use Rattle.std.proofs.Common.{◌≡◌, ℕ, List, [], ◌∷◌, ◌++◌, length, take, drop, refl, sym, ap, subst, arith, ◌∙◌, append-nil, Option, Some, None, inl, inr}
+use Rattle.std.proofs.Common.{◌≡◌, ℕ, List, [], ◌∷◌, ◌++◌, length, take, drop, refl, sym, ap, subst, arith, ◌∙◌, append-nil, true, Option, Some, None, inl, inr}
 use Rattle.std.specs.Io.KnownBytes.{append_known, prepend_known}
 use Rattle.std.proofs.lemmas.List.{append_assoc, take-append-drop}
 use Rattle.flat_run.specs.Run.{run_of}
@@ -11,7 +11,7 @@ use Rattle.outside.specs.Sink.{TookPart}
 use Rattle.solo_session.specs.Pace.{packets_of, solo_history}
 use Rattle.solo_session.specs.Said.{Agrees, last_words, packets_in, said}
 use Rattle.solo_session.specs.Session.{HasSaid, Served}
-use Rattle.solo_session.specs.Solo.{IsBroken, IsInput, IsReadOn, IsSentInPart, IsSession, IsWhole, ending_of}
+use Rattle.solo_session.specs.Solo.{IsBroken, IsInput, IsReadOn, IsSentInPart, IsSession, IsWhole, ending_of, is_too_long}
 use Rattle.solo_session.specs.declared.solo.Ending.{Ending}
 use Rattle.solo_session.proofs.Agreeing.{agrees_more, agrees_other}
 use Rattle.solo_session.proofs.Sayings.{said_closed, said_more}
@@ -92,13 +92,13 @@ module _ (s : Served) (bytes : List ℕ) (done others : List (List ℕ)) (told :
   }
 
   -- the same, of which a part was told
-  pub whole_in_part : (left_all held_all held : Option (List ℕ)) → IsInput left_all bytes → solo_history (run_of s.run) bytes ≡ s.history ++ entry.Close 0 cause ∷ entry.End ∷ [] → IsSentInPart held_all held (told ++ last_words cause)
+  pub whole_in_part : (left_all held_all held : Option (List ℕ)) → IsInput left_all bytes → is_too_long bytes ≡ true → solo_history (run_of s.run) bytes ≡ s.history ++ entry.Close 0 cause ∷ entry.End ∷ [] → IsSentInPart held_all held (told ++ last_words cause)
       → IsBroken (record { run = s.run; left = left_all; held = held_all }) held (s.history ++ entry.Close 0 cause ∷ entry.End ∷ [])
-  whole_in_part left_all held_all held input is sent = record {
+  whole_in_part left_all held_all held input long is sent = record {
     bytes = bytes;
     input = input;
     session = session_closed;
-    broken = inr (sym is);
+    broken = inr (long, sym is);
     sent = subst (λ z. IsSentInPart held_all held z) told_closed sent;
   }
 

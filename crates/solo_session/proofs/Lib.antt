@@ -12,3 +12,4 @@ mod Finished
 mod Extending
 mod Endings
 mod Reading
+pub mod Leaving

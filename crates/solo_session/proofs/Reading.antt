@@ -54,7 +54,7 @@ reads_first s left held served = (
   refl,
 )
 
-prepend_two : (one other : List ℕ) (left : Option (List ℕ)) → prepend_known one (prepend_known other left) ≡ prepend_known (one ++ other) left
+pub prepend_two : (one other : List ℕ) (left : Option (List ℕ)) → prepend_known one (prepend_known other left) ≡ prepend_known (one ++ other) left
 prepend_two one other None = refl
 prepend_two one other (Some bytes) = ap Some (sym (append_assoc one other bytes))
 
@@ -161,7 +161,7 @@ module _ (start : Start) (left : Option (List ℕ)) (s : Served) (rest : List �
       ∙ ap (λ z. closing (run_of s.run) all z) (sym read.served.paced)
 
 -- the same start of the run of a session
-abbrev started : Start → Sampled → Start
+abbrev pub started : Start → Sampled → Start
 started start run = record { run = run; left = start.left; held = start.held }
 
 -- a fault breaks the session off
@@ -217,7 +217,7 @@ module _ (start : Start) (left : Option (List ℕ)) (s : Served) (rest : List �
 
   long_in_part : (held : Option (List ℕ)) → IsSentInPart start.held held (told ++ last_words why.TooLong) → IsBroken (started start s.run) held (s.history ++ entry.Close 0 why.TooLong ∷ entry.End ∷ [])
   long_in_part held sent =
-      whole_in_part s long_all read.done (wholes (packets (rest ++ long_later))) told read.served.has_said long_packets why.TooLong start.left start.held held long_input solo_long sent
+      whole_in_part s long_all read.done (wholes (packets (rest ++ long_later))) told read.served.has_said long_packets why.TooLong start.left start.held held long_input is_long solo_long sent
 
 pub refused : (start : Start) (left held : Option (List ℕ)) (s : Served) (rest : List ℕ) (taken : ℕ) (told : List ℕ) → HasRead start left s rest taken told → packets rest ≡ too_long ∷ [] → held ≡ append_known start.held (told ++ last_words why.TooLong)
     → IsWhole start left held (s.history ++ entry.Close 0 why.TooLong ∷ entry.End ∷ []) ending.Served

@@ -1,6 +1,6 @@
 -- What a session with one client did, by the bytes that the client sent.
-use Rattle.std.specs.Prelude.{◌≡◌, ◌⊎◌, ⊤, ℕ, List, [], ◌∷◌, ◌++◌, length, take, Bool, true, not, ◌&&◌, nat_lt, Option, Some, None, if◌then◌else◌}
-use Rattle.std.specs.Io.KnownBytes.{IsAtEnd, append_known}
+use Rattle.std.specs.Prelude.{◌≡◌, ◌⊎◌, ⊤, ℕ, ◌+◌, ◌≤◌, List, [], ◌∷◌, ◌++◌, length, take, Bool, true, not, ◌&&◌, nat_lt, Option, Some, None, if◌then◌else◌}
+use Rattle.std.specs.Io.KnownBytes.{IsAtEnd, append_known, prepend_known}
 use Rattle.circuit.specs.Run.{Run}
 use Rattle.flat_run.specs.Run.{Sampled, run_of}
 use Rattle.frame_zero.specs.Packets.{packets}
@@ -10,7 +10,7 @@ use Rattle.hall_core.specs.declared.entry.Entry.{Entry}
 use Rattle.hall_core.specs.declared.entry.Entry.TheVariants as entry
 use Rattle.hall_core.specs.declared.entry.Why.TheVariants as why
 use Rattle.outside.specs.Faults.{Rose}
-use Rattle.solo_session.specs.Pace.{has_too_long, input_limit, packets_of, solo_history}
+use Rattle.solo_session.specs.Pace.{has_too_long, input_limit, opening, packets_of, solo_history, with_packets}
 use Rattle.solo_session.specs.Said.{Agrees, said}
 use Rattle.solo_session.specs.declared.solo.Ending.{Ending}
 use Rattle.solo_session.specs.declared.solo.Ending.TheVariants as ending
@@ -70,21 +70,43 @@ pub record IsSentInPart (before now : Option (List ℕ)) (bytes : List ℕ) : Ty
   pub parts : bytes ≡ sent ++ more
   pub holds : now ≡ append_known before sent
 
--- a fault broke the history off, or came when it was whole already; a beginning of what it says to the client came behind
--- what the output held
+-- a fault broke the history off, or the output failed when it was whole already, since a part of the bytes is too long; a
+-- beginning of what it says to the client came behind what the output held
 pub record IsBroken (start : Start) (held : Option (List ℕ)) (history : List Entry) : Type 0 where
   pub bytes : List ℕ
   pub input : IsInput start.left bytes
   pub session : IsSession (run_of start.run) bytes history
-  pub broken : IsCutOff (solo_history (run_of start.run) bytes) history ⊎ (history ≡ solo_history (run_of start.run) bytes)
+  pub broken : IsCutOff (solo_history (run_of start.run) bytes) history ⊎ ((is_too_long bytes ≡ true) × (history ≡ solo_history (run_of start.run) bytes))
   pub sent : IsSentInPart start.held held (said (run_of start.run) (packets_of bytes) 0 history)
 
--- what a session leaves, by how it ended: what the input has left, what the output holds, and the history
-abbrev pub IsEnded : Start → Option (List ℕ) → Option (List ℕ) → List Entry → Ending → Type 0
-IsEnded start left held history ending.Served = IsWhole start left held history ending.Served
-IsEnded start left held history ending.Limit = IsWhole start left held history ending.Limit
-IsEnded start left held history ending.InputFailed = IsBroken start held history
-IsEnded start left held history ending.OutputFailed = IsBroken start held history
+-- the packets of the bytes that were read have their entries, and all that these say came behind what the output held
+pub record IsServedTo (start : Start) (held : Option (List ℕ)) (history : List Entry) (given : List ℕ) : Type 0 where
+  pub whole : history ≡ with_packets (run_of start.run) [] opening (packets_of given) ++ entry.Close 0 why.Fault ∷ entry.End ∷ []
+  pub sent : held ≡ append_known start.held (said (run_of start.run) (packets_of given) 0 history)
+
+-- these bytes were read of an input: at most one more than are served
+pub record IsReadOf (before now : Option (List ℕ)) (given : List ℕ) : Type 0 where
+  pub few : length given ≤ input_limit + 1
+  pub read : before ≡ prepend_known given now
+
+-- by how a session ended
+abbrev pub IsEndedBy : Start → Option (List ℕ) → Option (List ℕ) → List Entry → List ℕ → Ending → Type 0
+IsEndedBy start left held history given ending.Served = IsWhole start left held history ending.Served
+IsEndedBy start left held history given ending.Limit = IsWhole start left held history ending.Limit
+IsEndedBy start left held history given ending.InputFailed = IsBroken start held history × IsServedTo start held history given
+IsEndedBy start left held history given ending.OutputFailed = IsBroken start held history
+
+-- what a session leaves: what the input has left, what the output holds, and the history
+pub record IsEnded (start : Start) (left held : Option (List ℕ)) (history : List Entry) (ends : Ending) : Type 0 where
+  pub given : List ℕ
+  pub taken : IsReadOf start.left left given
+  pub by : IsEndedBy start left held history given ends
+
+-- memory was wanting: a beginning of what the history of the client's bytes says came behind what the output held
+pub record IsWanting (start : Start) (held : Option (List ℕ)) : Type 0 where
+  pub bytes : List ℕ
+  pub input : IsInput start.left bytes
+  pub sent : IsSentInPart start.held held (said (run_of start.run) (packets_of bytes) 0 (solo_history (run_of start.run) bytes))
 
 -- the count of faults that rose is that of the object that failed, and no other did
 abbrev pub IsCause : Ending → ℕ → ℕ → ℕ → ℕ → Type 0

@@ -1,5 +1,5 @@
 //! One client over a source and a sink.
-ghost use Rattle.std.specs.Prelude.{◌≡◌, ◌≢◌, ℕ, ◌+◌, ◌-◌, ◌<◌, ◌≤◌, List, [], ◌∷◌, ◌++◌, length, take, Option, None, Some, Ok, IfOk, OnOk};
+ghost use Rattle.std.specs.Prelude.{◌≡◌, ◌≢◌, ℕ, ◌+◌, ◌-◌, ◌<◌, ◌≤◌, List, [], ◌∷◌, ◌++◌, length, take, Option, None, Some, Ok, IfOk, OnErr, OnOk};
 ghost use Rattle.std.specs.Io.KnownBytes.{IsAtEnd, append_known, prepend_known};
 ghost use Rattle.flat_run.specs.Run.{run_of};
 ghost use Rattle.frame_zero.specs.Packets.{packets, too_long};
@@ -9,7 +9,7 @@ ghost use Rattle.outside.specs.Source.{Gives, IsGot, SourceCause};
 ghost use Rattle.solo_session.specs.Pace.{input_limit};
 ghost use Rattle.solo_session.specs.Reading.{HasRead, IsOutputCause, IsReading, IsTurn};
 ghost use Rattle.solo_session.specs.Session.{HasServed, IsServing};
-ghost use Rattle.solo_session.specs.Solo.{IsCause, IsEnded, Start};
+ghost use Rattle.solo_session.specs.Solo.{IsCause, IsEnded, IsWanting, Start};
 
 use crate::session::Session;
 use frame_zero::Framer;
@@ -45,6 +45,7 @@ fn read_piece<I: Source>(input: &mut I, piece: &mut [u8], taken: usize) -> Got
     ensures room { length piece.new ≡ length piece.old }
     ensures within { IsGot result (length piece.old) }
     ensures limit { (count : ℕ) → result ≡ Got.Bytes count → taken < input_limit → taken + count ≤ input_limit }
+    ensures one { (count : ℕ) → result ≡ Got.Bytes count → taken ≡ input_limit → count ≤ 1 }
     ensures bytes { Gives (I.left input.old) (I.left input.new) result piece.new }
     ensures cause { SourceCause (I.faults input.old) (I.faults input.new) result }
 {
@@ -71,6 +72,7 @@ fn refuse<O: Sink>(
     requires { IsServing (run_of session.old.run) (replay session.old.history) }
     ensures ended { IfOk result (λ ending. (start : Start) (left : Option (List ℕ)) (rest told : List ℕ) (taken : ℕ) → HasRead start left session.old rest taken (told ++ text.old.items) → packets rest ≡ too_long ∷ []
         → O.held out.old ≡ append_known start.held told → IsEnded start left (O.held out.new) session.new.history ending) }
+    ensures wanting { OnErr result (O.held out.new ≡ O.held out.old) }
     ensures run { OnOk result (session.new.run ≡ session.old.run) }
     ensures cause { IfOk result (λ ending. IsOutputCause (Some ending) (O.faults out.old) (O.faults out.new)) }
     ensures later { O.faults out.old ≤ O.faults out.new }
@@ -94,6 +96,8 @@ fn take_piece<O: Sink>(
     requires { IsServing (run_of session.old.run) (replay session.old.history) }
     ensures turn { IfOk result (λ turn. (start : Start) (left : Option (List ℕ)) (taken : ℕ) → IsReading start (prepend_known piece.now left) (O.held out.old) session.old framer.old taken → taken + length piece.now ≤ input_limit
         → IsTurn start left (O.held out.new) session.new framer.new (taken + length piece.now) turn) }
+    ensures wanting { OnErr result ((start : Start) (left : Option (List ℕ)) (taken : ℕ) → IsReading start (prepend_known piece.now left) (O.held out.old) session.old framer.old taken → taken + length piece.now ≤ input_limit
+        → IsWanting start (O.held out.new)) }
     ensures run { OnOk result (session.new.run ≡ session.old.run) }
     ensures cause { IfOk result (λ turn. IsOutputCause turn (O.faults out.old) (O.faults out.new)) }
     ensures later { O.faults out.old ≤ O.faults out.new }
@@ -118,6 +122,8 @@ fn finish<O: Sink>(alloc: Global, session: &mut Session, out: &mut O) -> Result<
     requires { IsServing (run_of session.old.run) (replay session.old.history) }
     ensures ended { IfOk result (λ ending. (start : Start) (left : Option (List ℕ)) (rest : List ℕ) (taken : ℕ) → IsReading start left (O.held out.old) session.old rest taken → IsAtEnd left
         → IsEnded start left (O.held out.new) session.new.history ending) }
+    ensures wanting { OnErr result ((start : Start) (left : Option (List ℕ)) (rest : List ℕ) (taken : ℕ) → IsReading start left (O.held out.old) session.old rest taken → IsAtEnd left
+        → IsWanting start (O.held out.new)) }
     ensures run { OnOk result (session.new.run ≡ session.old.run) }
     ensures cause { IfOk result (λ ending. IsOutputCause (Some ending) (O.faults out.old) (O.faults out.new)) }
     ensures later { O.faults out.old ≤ O.faults out.new }
@@ -147,6 +153,7 @@ pub fn serve<I: Source, O: Sink>(
 ) -> Result<Ending, NoMemory>
     requires { HasServed [] session.old [] }
     ensures ended { IfOk result (λ ending. IsEnded (record { run = session.old.run; left = I.left input.old; held = O.held out.old }) (I.left input.new) (O.held out.new) session.new.history ending) }
+    ensures wanting { OnErr result (IsWanting (record { run = session.old.run; left = I.left input.old; held = O.held out.old }) (O.held out.new)) }
     ensures run { OnOk result (session.new.run ≡ session.old.run) }
     ensures cause { IfOk result (λ ending. IsCause ending (I.faults input.old) (I.faults input.new) (O.faults out.old) (O.faults out.new)) }
     ensures later_input { I.faults input.old ≤ I.faults input.new }

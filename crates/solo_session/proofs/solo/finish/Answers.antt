@@ -1,22 +1,48 @@
-use Rattle.std.proofs.Common.{◌++◌, ap, sym, subst, ◌∙◌}
+use Rattle.std.proofs.Common.{◌++◌, ◌∷◌, [], ap, sym, subst, ◌∙◌}
 use Rattle.std.specs.Io.KnownBytes.{append_known}
+use Rattle.hall_core.specs.declared.entry.Entry.TheVariants as entry
+use Rattle.hall_core.specs.declared.entry.Why.TheVariants as why
 use Rattle.outside.specs.Sink.{TookPart}
 use Rattle.solo_session.specs.Session.{HasSaid, Served}
-use Rattle.solo_session.specs.Solo.{IsBroken, IsWhole}
+use Rattle.solo_session.specs.Solo.{IsEnded}
 use Rattle.solo_session.specs.declared.solo.Ending.TheVariants as ending
+use Rattle.solo_session.proofs.Leaving.{broken_wanting, ended_by, on_err, reading_wanting, whole_wanting}
 use Rattle.solo_session.proofs.Reading.{finished, finished_in_part}
 use Rattle.solo_session.proofs.solo.finish.Goals as goal
 
 pub returns-in-Ok-clause-ended : goal.returns-in-Ok-clause-ended
-returns-in-Ok-clause-ended g c start left rest taken read ends =
-    subst (λ (n : Served). IsWhole start left (g.O.Sink.held c.put_all.new.sink) n.history ending.Served) (sym c.in_ok-leave-in-Ok.ensures)
-    (finished start left (g.O.Sink.held c.args.out.now) (g.O.Sink.held c.put_all.new.sink) c.args.session.now c.run_out.new.self rest taken c.run_out.new.text.items read ends c.in_ok-run_out.ensures.session
-    (λ ps sent has. c.in_ok-run_out.ensures.served ps sent (subst (λ z. HasSaid ps c.args.session.now (sent ++ z)) (sym c.new-text.ensures.items) has))
-    (c.in-Ok.ensures.ok ∙ ap (λ z. append_known (g.O.Sink.held c.args.out.now) z) c.deref.ensures.value))
+returns-in-Ok-clause-ended g c start left rest taken (told, read, sent, none) ends =
+    subst (λ (n : Served). IsEnded start left (g.O.Sink.held c.put_all.new.sink) n.history ending.Served) (sym c.in_ok-leave-in-Ok.ensures)
+    (ended_by start left (g.O.Sink.held c.put_all.new.sink) c.args.session.now rest taken told (c.run_out.new.self.history ++ entry.Close 0 why.Ended ∷ entry.End ∷ []) ending.Served read
+    (finished start left (g.O.Sink.held c.args.out.now) (g.O.Sink.held c.put_all.new.sink) c.args.session.now c.run_out.new.self rest taken c.run_out.new.text.items (told, read, sent, none) ends c.in_ok-run_out.ensures.session
+    (λ ps said has. c.in_ok-run_out.ensures.served ps said (subst (λ z. HasSaid ps c.args.session.now (said ++ z)) (sym c.new-text.ensures.items) has))
+    (c.in-Ok.ensures.ok ∙ ap (λ z. append_known (g.O.Sink.held c.args.out.now) z) c.deref.ensures.value)))
 
 pub returns-clause-ended : goal.returns-clause-ended
-returns-clause-ended g c start left rest taken read ends =
-    subst (λ (n : Served). IsBroken start (g.O.Sink.held c.put_all.new.sink) n.history) (sym c.in_ok-leave-in-Err.ensures)
-    (finished_in_part start left (g.O.Sink.held c.args.out.now) (g.O.Sink.held c.put_all.new.sink) c.args.session.now c.run_out.new.self rest taken c.run_out.new.text.items read ends c.in_ok-run_out.ensures.session
-    (λ ps sent has. c.in_ok-run_out.ensures.served ps sent (subst (λ z. HasSaid ps c.args.session.now (sent ++ z)) (sym c.new-text.ensures.items) has))
-    (subst (λ z. TookPart (g.O.Sink.held c.args.out.now) (g.O.Sink.held c.put_all.new.sink) z) c.deref.ensures.value c.in-Err.ensures.err))
+returns-clause-ended g c start left rest taken (told, read, sent, none) ends =
+    subst (λ (n : Served). IsEnded start left (g.O.Sink.held c.put_all.new.sink) n.history ending.OutputFailed) (sym c.in_ok-leave-in-Err.ensures)
+    (ended_by start left (g.O.Sink.held c.put_all.new.sink) c.args.session.now rest taken told (c.run_out.new.self.history ++ entry.Close 0 why.Fault ∷ entry.End ∷ []) ending.OutputFailed read
+    (finished_in_part start left (g.O.Sink.held c.args.out.now) (g.O.Sink.held c.put_all.new.sink) c.args.session.now c.run_out.new.self rest taken c.run_out.new.text.items (told, read, sent, none) ends c.in_ok-run_out.ensures.session
+    (λ ps said has. c.in_ok-run_out.ensures.served ps said (subst (λ z. HasSaid ps c.args.session.now (said ++ z)) (sym c.new-text.ensures.items) has))
+    (subst (λ z. TookPart (g.O.Sink.held c.args.out.now) (g.O.Sink.held c.put_all.new.sink) z) c.deref.ensures.value c.in-Err.ensures.err)))
+
+-- memory is wanting: before anything is sent, or when all or a part was
+pub returns-in_err-run_out-clause-wanting : goal.returns-in_err-run_out-clause-wanting
+returns-in_err-run_out-clause-wanting g c =
+    on_err c.from_residual.result (λ start left rest taken reading ends. reading_wanting start left (g.O.Sink.held c.args.out.now) c.args.session.now rest taken reading)
+
+pub returns-in_err-leave-in-Ok-clause-wanting : goal.returns-in_err-leave-in-Ok-clause-wanting
+returns-in_err-leave-in-Ok-clause-wanting g c =
+    on_err c.from_residual-in_err-leave-in-Ok.result
+    (λ start left rest taken reading ends. whole_wanting start left (g.O.Sink.held c.put_all.new.sink) (c.run_out.new.self.history ++ entry.Close 0 why.Ended ∷ entry.End ∷ []) ending.Served
+    (finished start left (g.O.Sink.held c.args.out.now) (g.O.Sink.held c.put_all.new.sink) c.args.session.now c.run_out.new.self rest taken c.run_out.new.text.items reading ends c.in_ok-run_out.ensures.session
+    (λ ps said has. c.in_ok-run_out.ensures.served ps said (subst (λ z. HasSaid ps c.args.session.now (said ++ z)) (sym c.new-text.ensures.items) has))
+    (c.in-Ok.ensures.ok ∙ ap (λ z. append_known (g.O.Sink.held c.args.out.now) z) c.deref.ensures.value)))
+
+pub returns-in_err-leave-in-Err-clause-wanting : goal.returns-in_err-leave-in-Err-clause-wanting
+returns-in_err-leave-in-Err-clause-wanting g c =
+    on_err c.from_residual-in_err-leave-in-Err.result
+    (λ start left rest taken reading ends. broken_wanting start (g.O.Sink.held c.put_all.new.sink) (c.run_out.new.self.history ++ entry.Close 0 why.Fault ∷ entry.End ∷ [])
+    (finished_in_part start left (g.O.Sink.held c.args.out.now) (g.O.Sink.held c.put_all.new.sink) c.args.session.now c.run_out.new.self rest taken c.run_out.new.text.items reading ends c.in_ok-run_out.ensures.session
+    (λ ps said has. c.in_ok-run_out.ensures.served ps said (subst (λ z. HasSaid ps c.args.session.now (said ++ z)) (sym c.new-text.ensures.items) has))
+    (subst (λ z. TookPart (g.O.Sink.held c.args.out.now) (g.O.Sink.held c.put_all.new.sink) z) c.deref.ensures.value c.in-Err.ensures.err)))
