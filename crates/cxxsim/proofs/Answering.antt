@@ -7,7 +7,7 @@ use Rattle.flat_stimulus.specs.Text.{block_of}
 use Rattle.outside.specs.Shelf.{File, Holds, IsLonger, IsOf, IsTold, Missing, Untold}
 use Rattle.solo_session.specs.declared.solo.Ending.{Ending}
 use Rattle.solo_session.specs.declared.solo.Ending.TheVariants as ending
-use Rattle.cxxsim.specs.Answers.{IsAnswered, IsClosed, IsDoneBy, IsFaultOf, IsLimitedBy, IsMisused, IsRefused, IsUnreadBy, IsUntraced, IsUnwrittenBy, IsWantingBy, HasEnded, Task, task}
+use Rattle.cxxsim.specs.Answers.{IsAnswered, IsClosed, IsDoneBy, IsFaultOf, IsLimitedBy, IsMisused, IsRefused, IsToldOf, IsUnreadBy, IsUntraced, IsUnwrittenBy, IsWantingBy, HasEnded, Task, task}
 use Rattle.cxxsim.specs.Outcome.{Went, WentBy, ended_status, status_of}
 use Rattle.cxxsim.specs.Outside.{Outside}
 use Rattle.cxxsim.specs.Trace.{HasLongStimulus, HasNoDesign, HasNoStimulus, IsFault, IsRun, design_circuit}
@@ -45,21 +45,21 @@ one_some x y o p q = cc
 one_circuit : (limit : ℕ) (f : File) (c d : Circuit) (a b : List ℕ) → IsTold f → IsOf f a → IsOf f b → design_circuit a ≡ Some c → design_circuit b ≡ Some d → c ≡ d
 one_circuit limit f c d a b told p q here there = one_some c d (design_circuit a) here (ap design_circuit (one_text f a b told p q) ∙ there)
 
-no_fault : (limit : ℕ) (design stimulus : File) (c : Circuit) (b : Block) (r : Refusal) → IsTold design → IsTold stimulus → IsRun limit design stimulus c b → IsFault limit design stimulus r → ⊥
-no_fault limit d s c b refusal.DesignTooLong told_d told_s run fault = within_limit d run.circuit.text limit told_d run.circuit.held.0 run.circuit.held.1 fault
-no_fault limit d s c b refusal.DesignNotBuilt told_d told_s run fault =
-    some_none c (design_circuit run.circuit.text) run.circuit.read (ap design_circuit (one_text d run.circuit.text fault.text told_d run.circuit.held.0 fault.held.0) ∙ fault.unread)
-no_fault limit d s c b refusal.StimulusTooLong told_d told_s run fault = within_limit s run.block.text limit told_s run.block.held.0 run.block.held.1 fault.longer
-no_fault limit d s c b refusal.StimulusNotBuilt told_d told_s run fault =
-    let same : c ≡ fault.circuit = one_circuit limit d c fault.circuit run.circuit.text fault.is_design.text told_d run.circuit.held.0 fault.is_design.held.0 run.circuit.read fault.is_design.read in
-    let texts : run.block.text ≡ fault.unread.text = one_text s run.block.text fault.unread.text told_s run.block.held.0 fault.unread.held.0 in
+no_fault : (t : Task) (c : Circuit) (b : Block) (r : Refusal) → IsToldOf t r → IsRun t.limit t.design t.stimulus c b → IsFaultOf t r → ⊥
+no_fault t c b refusal.DesignTooLong told run fault = within_limit t.design run.circuit.text t.limit told run.circuit.held.0 run.circuit.held.1 fault
+no_fault t c b refusal.DesignNotBuilt told run fault =
+    some_none c (design_circuit run.circuit.text) run.circuit.read (ap design_circuit (one_text t.design run.circuit.text fault.text told run.circuit.held.0 fault.held.0) ∙ fault.unread)
+no_fault t c b refusal.StimulusTooLong told run fault = within_limit t.stimulus run.block.text t.limit told.1 run.block.held.0 run.block.held.1 fault.longer
+no_fault t c b refusal.StimulusNotBuilt told run fault =
+    let same : c ≡ fault.circuit = one_circuit t.limit t.design c fault.circuit run.circuit.text fault.is_design.text told.0 run.circuit.held.0 fault.is_design.held.0 run.circuit.read fault.is_design.read in
+    let texts : run.block.text ≡ fault.unread.text = one_text t.stimulus run.block.text fault.unread.text told.1 run.block.held.0 fault.unread.held.0 in
     some_none b (block_of run.block.text c) run.block.read (ap (λ t. block_of t c) texts ∙ ap (block_of fault.unread.text) same ∙ fault.unread.unread)
 
 -- ---- by the status
 
 -- a file that has a fault is not followed
 abbrev Unfaulty : ℕ → Outside → Command → Type 0
-Unfaulty limit w c = IsTold (task limit w c).design → IsTold (task limit w c).stimulus → (r : Refusal) → IsFaultOf (task limit w c) r → ⊥
+Unfaulty limit w c = (r : Refusal) → IsToldOf (task limit w c) r → IsFaultOf (task limit w c) r → ⊥
 
 some_is : {X : Type 0} (x y : X) → Some x ≡ Some y → x ≡ y
 some_is x y e = cc
@@ -80,7 +80,7 @@ done_whole limit w c is un = record {
   usage_comes = λ e. absurd (none_some c e);
   unread = λ e. absurd (omega (arith, e));
   refused = λ e. absurd (omega (arith, e));
-  refusal_comes = λ d e td ts r f. absurd (unfaulty_of limit w c d un e td ts r f);
+  refusal_comes = λ d e r told f. absurd (unfaulty_of limit w c d un e r told f);
   unwritten = λ e. absurd (omega (arith, e));
   wanting = λ e. absurd (omega (arith, e));
   limited = λ e. absurd (omega (arith, e));
@@ -95,7 +95,7 @@ done_short limit w c is un = record {
   usage_comes = λ e. absurd (none_some c e);
   unread = λ e. absurd (omega (arith, e));
   refused = λ e. absurd (omega (arith, e));
-  refusal_comes = λ d e td ts r f. absurd (unfaulty_of limit w c d un e td ts r f);
+  refusal_comes = λ d e r told f. absurd (unfaulty_of limit w c d un e r told f);
   unwritten = λ e. absurd (omega (arith, e));
   wanting = λ e. absurd (omega (arith, e));
   limited = λ e. absurd (omega (arith, e));
@@ -110,7 +110,7 @@ misused limit w is = record {
   usage_comes = λ e. inl refl;
   unread = λ e. absurd (omega (arith, e));
   refused = λ e. absurd (omega (arith, e));
-  refusal_comes = λ d e td ts r f. absurd (none_some d (sym e));
+  refusal_comes = λ d e r told f. absurd (none_some d (sym e));
   unwritten = λ e. absurd (omega (arith, e));
   wanting = λ e. absurd (omega (arith, e));
   limited = λ e. absurd (omega (arith, e));
@@ -125,7 +125,7 @@ misused_unlogged limit w is = record {
   usage_comes = λ e. inr (refl, is);
   unread = λ e. absurd (omega (arith, e));
   refused = λ e. absurd (omega (arith, e));
-  refusal_comes = λ d e td ts r f. absurd (none_some d (sym e));
+  refusal_comes = λ d e r told f. absurd (none_some d (sym e));
   unwritten = λ e. inl is;
   wanting = λ e. absurd (omega (arith, e));
   limited = λ e. absurd (omega (arith, e));
@@ -140,7 +140,7 @@ unread limit w c is = record {
   usage_comes = λ e. absurd (none_some c e);
   unread = λ e. is;
   refused = λ e. absurd (omega (arith, e));
-  refusal_comes = λ d e td ts r f. inr (inl refl);
+  refusal_comes = λ d e r told f. inr (inl refl);
   unwritten = λ e. absurd (omega (arith, e));
   wanting = λ e. absurd (omega (arith, e));
   limited = λ e. absurd (omega (arith, e));
@@ -155,7 +155,7 @@ refused limit w c is = record {
   usage_comes = λ e. absurd (none_some c e);
   unread = λ e. absurd (omega (arith, e));
   refused = λ e. is;
-  refusal_comes = λ d e td ts r f. inl refl;
+  refusal_comes = λ d e r told f. inl refl;
   unwritten = λ e. absurd (omega (arith, e));
   wanting = λ e. absurd (omega (arith, e));
   limited = λ e. absurd (omega (arith, e));
@@ -170,7 +170,7 @@ refused_unlogged limit w c is = record {
   usage_comes = λ e. absurd (none_some c e);
   unread = λ e. absurd (omega (arith, e));
   refused = λ e. absurd (omega (arith, e));
-  refusal_comes = λ d e td ts r f. inr (inr (inl (refl, subst (λ (z : Command). IsRefused (task limit w z) false) (some_is c d e) is)));
+  refusal_comes = λ d e r told f. inr (inr (inl (refl, subst (λ (z : Command). IsRefused (task limit w z) false) (some_is c d e) is)));
   unwritten = λ e. inr (inl is);
   wanting = λ e. absurd (omega (arith, e));
   limited = λ e. absurd (omega (arith, e));
@@ -185,7 +185,7 @@ unwritten limit w c is un = record {
   usage_comes = λ e. absurd (none_some c e);
   unread = λ e. absurd (omega (arith, e));
   refused = λ e. absurd (omega (arith, e));
-  refusal_comes = λ d e td ts r f. absurd (unfaulty_of limit w c d un e td ts r f);
+  refusal_comes = λ d e r told f. absurd (unfaulty_of limit w c d un e r told f);
   unwritten = λ e. inr (inr is);
   wanting = λ e. absurd (omega (arith, e));
   limited = λ e. absurd (omega (arith, e));
@@ -200,7 +200,7 @@ wanting limit w c is = record {
   usage_comes = λ e. absurd (none_some c e);
   unread = λ e. absurd (omega (arith, e));
   refused = λ e. absurd (omega (arith, e));
-  refusal_comes = λ d e td ts r f. inr (inr (inr refl));
+  refusal_comes = λ d e r told f. inr (inr (inr refl));
   unwritten = λ e. absurd (omega (arith, e));
   wanting = λ e. is;
   limited = λ e. absurd (omega (arith, e));
@@ -215,7 +215,7 @@ limited limit w c is un = record {
   usage_comes = λ e. absurd (none_some c e);
   unread = λ e. absurd (omega (arith, e));
   refused = λ e. absurd (omega (arith, e));
-  refusal_comes = λ d e td ts r f. absurd (unfaulty_of limit w c d un e td ts r f);
+  refusal_comes = λ d e r told f. absurd (unfaulty_of limit w c d un e r told f);
   unwritten = λ e. absurd (omega (arith, e));
   wanting = λ e. absurd (omega (arith, e));
   limited = λ e. is;
@@ -224,7 +224,7 @@ limited limit w c is un = record {
 -- ---- all ways in which a call ends
 
 unfaulty_run : (limit : ℕ) (w : Outside) (cmd : Command) (c : Circuit) (b : Block) → IsRun limit (task limit w cmd).design (task limit w cmd).stimulus c b → Unfaulty limit w cmd
-unfaulty_run limit w cmd c b run td ts r f = no_fault limit (task limit w cmd).design (task limit w cmd).stimulus c b r td ts run f
+unfaulty_run limit w cmd c b run r told f = no_fault (task limit w cmd) c b r told run f
 
 -- what holds in a mode holds in that of the command
 in_mode : (P : Mode → Type 0) (m n : Mode) → m ≡ n → P n → P m

@@ -32,7 +32,7 @@ went_by t c b mode.Solo (outcome.Refused r logged) run is = absurd is
 went_by t c b mode.Solo (outcome.Traced unsettled) run is = absurd is
 went_by t c b mode.Solo outcome.Untraced run is = absurd is
 went_by t c b mode.Solo (outcome.Closed k) run is = (refl, record { circuit = c; block = b; is_run = run; session = is })
-went_by t c b mode.Solo outcome.NoMemory run is = is
+went_by t c b mode.Solo outcome.NoMemory run is = (is.0, inr (c, b, run, is.1))
 
 named_by : (file : List ℕ → File) (o : Option (List ℕ)) (d : List ℕ) → o ≡ Some d → file d ≡ named file o
 named_by file o d e = sym (ap (named file) e)
@@ -58,7 +58,7 @@ refused limit w cmd d s r logged is_d is_s fault got input out = (
 -- memory that is wanting before anything is read or written
 pub wanting_by : (t : Task) (m : Mode) → IsIdle t.outside → IsWantingBy t m
 wanting_by t mode.Trace idle = (inl idle.1, idle.0, idle.2)
-wanting_by t mode.Solo idle = idle.2
+wanting_by t mode.Solo idle = (idle.2, inl idle.1)
 
 nothing : IsSome {T = Command} None → ⊥
 nothing e = cc

@@ -8,17 +8,18 @@ use Rattle.hall_core.specs.Legal.{Legal, RunFacts}
 use Rattle.hall_core.specs.declared.entry.Entry.{Entry}
 use Rattle.hall_core.specs.declared.entry.Entry.TheVariants as entry
 use Rattle.hall_core.proofs.Histories.{legal_taken}
-use Rattle.solo_session.specs.Solo.{IsCause, IsEnded, Start}
+use Rattle.solo_session.specs.Solo.{IsCause, IsEnded, IsWanting, Start}
 use Rattle.solo_session.specs.declared.solo.Ending.{Ending}
 use Rattle.solo_session.specs.declared.solo.Ending.TheVariants as ending
+use Rattle.solo_session.proofs.Leaving.{broken_wanting, whole_wanting}
 use Rattle.cxxsim.specs.Outside.{Told}
-use Rattle.cxxsim.specs.Solo.{IsHeld}
+use Rattle.cxxsim.specs.Solo.{IsHeld, IsSentAtMost}
 
 ended_legal : (start : Start) (left held : Option (List ℕ)) (history : List Entry) (ends : Ending) → IsEnded start left held history ends → Legal (facts_of (run_of start.run)) history
-ended_legal start left held history ending.Served is = is.session.legal
-ended_legal start left held history ending.Limit is = is.session.legal
-ended_legal start left held history ending.InputFailed is = is.session.legal
-ended_legal start left held history ending.OutputFailed is = is.session.legal
+ended_legal start left held history ending.Served is = is.by.session.legal
+ended_legal start left held history ending.Limit is = is.by.session.legal
+ended_legal start left held history ending.InputFailed is = is.by.0.session.legal
+ended_legal start left held history ending.OutputFailed is = is.by.session.legal
 
 pub served_is_held : (run : Sampled) (input out : Told) (history : List Entry) (ends : Ending) → 1 ≤ run_length (run_of run)
     → IsEnded (record { run = run; left = input.before; held = out.before }) input.now out.now history ends → IsCause ends input.faults input.faults_now out.faults out.faults_now
@@ -47,3 +48,17 @@ unserved_is_held run input out history short some is quiet_input quiet_out input
   legal = subst (λ (h : List Entry). Legal (facts_of (run_of run)) h) (sym is) (unserved_legal (facts_of (run_of run)) short some);
   cause = (input_same, out_same);
 }
+
+ended_sends : (start : Start) (left held : Option (List ℕ)) (history : List Entry) (ends : Ending) → IsEnded start left held history ends → IsWanting start held
+ended_sends start left held history ending.Served is = whole_wanting start left held history ending.Served is.by
+ended_sends start left held history ending.Limit is = whole_wanting start left held history ending.Limit is.by
+ended_sends start left held history ending.InputFailed is = broken_wanting start held history is.by.0
+ended_sends start left held history ending.OutputFailed is = broken_wanting start held history is.by
+
+-- what a session sent is a beginning of what it is to send
+pub held_sends : (run : Sampled) (input out : Told) (history : List Entry) (ends : Ending) → IsHeld run input out history ends → IsSentAtMost run input out
+held_sends run input out history ends held =
+    elim held.either [
+      | inl unserved ↦ inl unserved.quiet_out
+      | inr served ↦ inr (ended_sends (record { run = run; left = input.before; held = out.before }) input.now out.now history ends served.ended)
+    ]

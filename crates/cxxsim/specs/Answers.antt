@@ -9,12 +9,13 @@ use Rattle.solo_session.specs.declared.solo.Ending.{Ending}
 use Rattle.solo_session.specs.declared.solo.Ending.TheVariants as ending
 use Rattle.cxxsim.specs.Outside.{HasFailed, HasGot, IsQuiet, Outside, named}
 use Rattle.cxxsim.specs.Printed.{refusal_line, usage_line}
-use Rattle.cxxsim.specs.Solo.{IsSolo}
+use Rattle.cxxsim.specs.Solo.{IsSentAtMost, IsSolo}
 use Rattle.cxxsim.specs.Trace.{IsFault, IsRun, IsTrace, IsTraceBegun}
 use Rattle.cxxsim.specs.declared.command.Command.{Command}
 use Rattle.cxxsim.specs.declared.command.Mode.{Mode}
 use Rattle.cxxsim.specs.declared.command.Mode.TheVariants as mode
 use Rattle.cxxsim.specs.declared.refusal.Refusal.{Refusal}
+use Rattle.cxxsim.specs.declared.refusal.Refusal.TheVariants as refusal
 use Rattle.cxxsim.specs.declared.session.Closed.{Closed}
 
 -- design and stimulus files have at most so many bytes
@@ -83,7 +84,9 @@ IsLimitedBy t mode.Solo = HasEnded t ending.Limit
 -- what is left after want of memory
 abbrev pub IsWantingBy : Task → Mode → Type 0
 IsWantingBy t mode.Trace = IsTraceBegun t.limit t.design t.stimulus t.outside.out.before t.outside.out.now × IsQuiet t.outside.input × IsQuiet t.outside.log
-IsWantingBy t mode.Solo = IsQuiet t.outside.log
+IsWantingBy t mode.Solo =
+    IsQuiet t.outside.log
+    × (IsQuiet t.outside.out ⊎ ((c : Circuit) × (b : Block) × IsRun t.limit t.design t.stimulus c b × IsSentAtMost (record { circuit = c; block = b }) t.outside.input t.outside.out))
 
 -- ---- by what the words ask for
 
@@ -94,6 +97,13 @@ IfAsked (Some c) P = P c
 -- a file has this fault
 abbrev pub IsFaultOf : Task → Refusal → Type 0
 IsFaultOf t r = IsFault t.limit t.design t.stimulus r
+
+-- the shelf tells of the file that has the fault, and of the one that is read before it
+abbrev pub IsToldOf : Task → Refusal → Type 0
+IsToldOf t refusal.DesignTooLong = IsTold t.design
+IsToldOf t refusal.DesignNotBuilt = IsTold t.design
+IsToldOf t refusal.StimulusTooLong = IsTold t.design × IsTold t.stimulus
+IsToldOf t refusal.StimulusNotBuilt = IsTold t.design × IsTold t.stimulus
 
 -- a file has a fault, and its line came to the log, or the log failed; nothing else was read or written
 abbrev pub IsRefused : Task → Bool → Type 0
@@ -116,7 +126,7 @@ pub record IsAnswered (limit : ℕ) (asked : Option Command) (w : Outside) (stat
   pub unread : status ≡ 3 → IfAsked asked (λ c. IsUnreadBy (task limit w c) c.mode)
   -- 4: exactly where a file that was read has a fault; 5 in its place only where the log failed
   pub refused : status ≡ 4 → IfAsked asked (λ c. IsRefused (task limit w c) true)
-  pub refusal_comes : (c : Command) → asked ≡ Some c → IsTold (task limit w c).design → IsTold (task limit w c).stimulus → (r : Refusal) → IsFaultOf (task limit w c) r
+  pub refusal_comes : (c : Command) → asked ≡ Some c → (r : Refusal) → IsToldOf (task limit w c) r → IsFaultOf (task limit w c) r
       → (status ≡ 4) ⊎ (status ≡ 3) ⊎ ((status ≡ 5) × IsRefused (task limit w c) false) ⊎ (status ≡ 8)
   -- 5: only where the output failed, or the log
   pub unwritten : status ≡ 5 → IsMisused asked w false ⊎ IfAsked asked (λ c. IsRefused (task limit w c) false ⊎ IsUnwrittenBy (task limit w c) c.mode)

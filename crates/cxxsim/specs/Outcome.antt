@@ -12,7 +12,7 @@ use Rattle.solo_session.specs.declared.solo.Ending.TheVariants as ending
 use Rattle.cxxsim.specs.Answers.{IsClosed, IsDoneBy, IsFaultOf, IsIdle, IsMisused, IsUntraced, IsWantingBy, Task, task}
 use Rattle.cxxsim.specs.Outside.{HasFailed, HasGot, IsQuiet, Outside, Told}
 use Rattle.cxxsim.specs.Printed.{refusal_line}
-use Rattle.cxxsim.specs.Solo.{IsSessionOf}
+use Rattle.cxxsim.specs.Solo.{IsSentAtMost, IsSessionOf}
 use Rattle.cxxsim.specs.TraceText.{run_text}
 use Rattle.cxxsim.specs.declared.command.Command.{Command}
 use Rattle.cxxsim.specs.declared.command.Mode.{Mode}
@@ -77,7 +77,7 @@ HeldAs c b input out log (outcome.Refused r logged) = ⊥
 HeldAs c b input out log (outcome.Traced unsettled) = ⊥
 HeldAs c b input out log outcome.Untraced = ⊥
 HeldAs c b input out log (outcome.Closed k) = IsSessionOf (record { circuit = c; block = b }) input out log k
-HeldAs c b input out log outcome.NoMemory = IsQuiet log
+HeldAs c b input out log outcome.NoMemory = IsQuiet log × IsSentAtMost (record { circuit = c; block = b }) input out
 
 -- what is left by a run that was followed
 abbrev pub FollowedAs : Circuit → Block → Told → Told → Told → Mode → Outcome → Type 0

@@ -11,7 +11,7 @@ use Rattle.hall_core.specs.Replay.{replay}
 use Rattle.hall_core.specs.declared.entry.Entry.{Entry}
 use Rattle.hall_core.specs.declared.entry.Entry.TheVariants as entry
 use Rattle.outside.specs.Shelf.{File}
-use Rattle.solo_session.specs.Solo.{IsCause, IsEnded}
+use Rattle.solo_session.specs.Solo.{IsCause, IsEnded, IsWanting}
 use Rattle.solo_session.specs.declared.solo.Ending.{Ending}
 use Rattle.solo_session.specs.declared.solo.Ending.TheVariants as ending
 use Rattle.cxxsim.specs.Outside.{HasGot, IsQuiet, Told}
@@ -36,6 +36,10 @@ pub record IsHeld (run : Sampled) (input out : Told) (history : List Entry) (end
   pub either : IsUnserved run input out history ends ⊎ IsServed run input out history ends
   pub legal : Legal (facts_of (run_of run)) history
   pub cause : IsCause ends input.faults input.faults_now out.faults out.faults_now
+
+-- after want of memory: nothing was sent, or a beginning of what the history of the client's bytes says
+abbrev pub IsSentAtMost : Sampled → Told → Told → Type 0
+IsSentAtMost run input out = IsQuiet out ⊎ IsWanting (record { run = run; left = input.before; held = out.before }) out.now
 
 -- the log has got the text of the history of a session
 pub record IsSessionOf (run : Sampled) (input out log : Told) (closed : Closed) : Type 0 where

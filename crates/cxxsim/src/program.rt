@@ -1,11 +1,11 @@
 //! The whole program, over any shelf, any input and any sinks.
-ghost use Rattle.std.specs.Prelude.{◌≡◌, ◌≤◌, ℕ, IfOk, IsSome, List, OnErr, Some, map, string_bytes};
+ghost use Rattle.std.specs.Prelude.{◌≡◌, ◌≤◌, ℕ, IfOk, IsSome, List, None, OnErr, Some, map, string_bytes};
 ghost use Rattle.flat_design.specs.Flat.{IsFlat};
 ghost use Rattle.flat_run.specs.Run.{AreSamples};
 ghost use Rattle.cxxsim.specs.Answers.{IsAnswered, file_limit, task};
 ghost use Rattle.cxxsim.specs.Outcome.{FollowedAs, TracedAs, Went, WentBy};
 ghost use Rattle.cxxsim.specs.Outside.{IsLater, around, told};
-ghost use Rattle.cxxsim.specs.Solo.{IsSessionOf};
+ghost use Rattle.cxxsim.specs.Solo.{IsSentAtMost, IsSessionOf};
 ghost use Rattle.cxxsim.specs.Words.{command_of};
 
 use crate::command::{Command, Mode};
@@ -63,6 +63,7 @@ fn serve_one<I: Source, O: Sink, G: Sink>(
     requires samples { AreSamples loaded.circuit loaded.stimulus }
     ensures session { IfOk result (IsSessionOf (record { circuit = loaded.circuit; block = loaded.stimulus }) (told (I.left input.old) (I.left input.new) (I.faults input.old) (I.faults input.new)) (told (O.held out.old) (O.held out.new) (O.faults out.old) (O.faults out.new)) (told (G.held log.old) (G.held log.new) (G.faults log.old) (G.faults log.new))) }
     ensures quiet { OnErr result (G.held log.new ≡ G.held log.old) }
+    ensures wanting { OnErr result (IsSentAtMost (record { circuit = loaded.circuit; block = loaded.stimulus }) (told (I.left input.old) (I.left input.new) (I.faults input.old) (I.faults input.new)) (told (O.held out.old) (O.held out.new) (O.faults out.old) (O.faults out.new))) }
     ensures input_later { I.faults input.old ≤ I.faults input.new }
     ensures out_later { O.faults out.old ≤ O.faults out.new }
     ensures log_later { G.faults log.old ≤ G.faults log.new }
@@ -145,7 +146,7 @@ fn call<S: Shelf, I: Source, O: Sink, G: Sink>(
 }
 
 /// Does what a command on two files asks for, over the files of a shelf, the input, the output and the log,
-/// and answers the status of `cxxsim`; 2 does not come. The design's file is read first, then that of the
+/// and answers the status of `cxxsim`; 2 does not come. No top module and no recording can be named yet. The design's file is read first, then that of the
 /// stimulus, then the session begins; the first cause decides.
 pub fn solo<S: Shelf, I: Source, O: Sink, G: Sink>(
     alloc: Global,
@@ -157,6 +158,8 @@ pub fn solo<S: Shelf, I: Source, O: Sink, G: Sink>(
 ) -> u8
     requires design { IsSome command.now.design }
     requires stimulus { IsSome command.now.stimulus }
+    requires top { command.now.top ≡ None }
+    requires spool { command.now.spool ≡ None }
     ensures answered { IsAnswered file_limit (Some command.now) (around (S.file shelf.old) (S.read_faults shelf.old) (S.read_faults shelf.new) (told (I.left input.old) (I.left input.new) (I.faults input.old) (I.faults input.new)) (told (O.held out.old) (O.held out.new) (O.faults out.old) (O.faults out.new)) (told (G.held log.old) (G.held log.new) (G.faults log.old) (G.faults log.new))) result }
     ensures later { IsLater (around (S.file shelf.old) (S.read_faults shelf.old) (S.read_faults shelf.new) (told (I.left input.old) (I.left input.new) (I.faults input.old) (I.faults input.new)) (told (O.held out.old) (O.held out.new) (O.faults out.old) (O.faults out.new)) (told (G.held log.old) (G.held log.new) (G.faults log.old) (G.faults log.new))) }
     ensures files { (other : List ℕ) → S.file shelf.new other ≡ S.file shelf.old other }

@@ -3,7 +3,7 @@ ghost use Rattle.std.specs.Prelude.{◌≡◌, [], ◌≤◌, IfOk, OnErr, false
 ghost use Rattle.flat_run.specs.Run.{run_of};
 ghost use Rattle.hall_core.specs.Replay.{replay};
 ghost use Rattle.cxxsim.specs.Outside.{HasGot, told};
-ghost use Rattle.cxxsim.specs.Solo.{IsHeld, IsSessionOf};
+ghost use Rattle.cxxsim.specs.Solo.{IsHeld, IsSentAtMost, IsSessionOf};
 
 use flat_run::FlatRun;
 use hall_core::log_text;
@@ -33,6 +33,7 @@ fn hold<I: Source, O: Sink>(
     requires greeted { session.old.greeted ≡ false }
     requires some { 1 ≤ (run_of session.old.run).count }
     ensures held { IfOk result (λ ending. IsHeld session.old.run (told (I.left input.old) (I.left input.new) (I.faults input.old) (I.faults input.new)) (told (O.held out.old) (O.held out.new) (O.faults out.old) (O.faults out.new)) session.new.history ending) }
+    ensures wanting { OnErr result (IsSentAtMost session.old.run (told (I.left input.old) (I.left input.new) (I.faults input.old) (I.faults input.new)) (told (O.held out.old) (O.held out.new) (O.faults out.old) (O.faults out.new))) }
     ensures input_later { I.faults input.old ≤ I.faults input.new }
     ensures out_later { O.faults out.old ≤ O.faults out.new }
 {
@@ -53,6 +54,7 @@ pub fn converse<I: Source, O: Sink, G: Sink>(
 ) -> Result<Closed, NoMemory>
     ensures session { IfOk result (IsSessionOf run (told (I.left input.old) (I.left input.new) (I.faults input.old) (I.faults input.new)) (told (O.held out.old) (O.held out.new) (O.faults out.old) (O.faults out.new)) (told (G.held log.old) (G.held log.new) (G.faults log.old) (G.faults log.new))) }
     ensures quiet { OnErr result (G.held log.new ≡ G.held log.old) }
+    ensures wanting { OnErr result (IsSentAtMost run (told (I.left input.old) (I.left input.new) (I.faults input.old) (I.faults input.new)) (told (O.held out.old) (O.held out.new) (O.faults out.old) (O.faults out.new))) }
     ensures input_later { I.faults input.old ≤ I.faults input.new }
     ensures out_later { O.faults out.old ≤ O.faults out.new }
     ensures log_later { G.faults log.old ≤ G.faults log.new }

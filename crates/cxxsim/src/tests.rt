@@ -396,6 +396,13 @@ fn calls_that_fail_are_told(rt: HostRuntime) -> Result<(), Fail> {
         (Failing { read: 1, ..NONE }, good, 3, "", ""),
         (Failing { read: 2, ..NONE }, good, 3, "", ""),
         (Failing { read: 1, ..NONE }, bad, 3, "", ""),
+        (
+            Failing { read: 2, ..NONE },
+            bad,
+            4,
+            "",
+            "refused 60 NotBuilt design\n",
+        ),
         (Failing { out: 1, ..NONE }, good, 5, "", ""),
         (Failing { out: 3, ..NONE }, good, 5, "items 2\n1 clk\n", ""),
         (Failing { log: 1, ..NONE }, good, 0, COUNTED, ""),
