@@ -1,0 +1,10 @@
+use Rattle.std.proofs.Common.{◌≡◌}
+use Rattle.signal_words.specs.Values.{widths}
+use Rattle.eval_commit.specs.Spread.{IsSpread}
+use Rattle.eval_commit.proofs.put.spread.Given as goal
+
+abbrev pub invariant-loop-place : goal.invariant-loop-place
+invariant-loop-place l = record {
+  same : widths l.nets ≡ widths l.fn.nets;
+  spread : IsSpread l.roots l.places l.place-index l.from.number l.fn.nets l.nets;
+}

@@ -1,0 +1,4 @@
+//! The values of a circuit's nets, computed in the order of a plan.
+#![tactic(auto)]
+
+mod put;

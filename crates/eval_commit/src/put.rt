@@ -1,0 +1,95 @@
+//! Values written to the bits of roots.
+ghost use Rattle.std.specs.Prelude.{◌≡◌, ℕ, ◌+◌, ◌-◌, ◌<◌, ◌≤◌, List, Some, true, false, length, slice_get, if◌then◌else◌};
+ghost use Rattle.std.specs.Int.{bit_at};
+ghost use Rattle.sim_base.specs.BitValue.{BitValue};
+ghost use Rattle.circuit.specs.Valuation.{covers};
+ghost use Rattle.circuit.specs.declared.netlist.Drive.{Drive as TheDrive};
+ghost use Rattle.driver_check.specs.Depends.{Bit};
+ghost use Rattle.signal_words.specs.Values.{digits_in, width_at, widths};
+ghost use Rattle.eval_commit.specs.Spread.{AreApart, AreRootsInside, IsRootInside, IsSpread, offset_of, taken_digit};
+ghost use Rattle.eval_commit.specs.Held.{HasKept, IsSeeded, Kept, is_kept, kept_value};
+
+use circuit::{By, Drive, Values};
+use sim_base::Bits;
+
+/// The first bit that is taken of what drives.
+fn offset_of(by: &By) -> u32
+    ensures { result ≡ offset_of by.now }
+{
+    match by {
+        By::Const(_) => 0,
+        By::Input(_, at)
+        | By::Wire(_, at)
+        | By::Cell(_, at)
+        | By::Reg(_, at)
+        | By::Read(_, _, at) => *at,
+    }
+}
+
+/// Writes the bits of a root.
+fn put(nets: &mut Values<Bits>, root: &Drive, from: &Bits)
+    requires inside { IsRootInside nets.old root.now }
+    requires from_inside { offset_of root.now.by + root.now.width ≤ from.now.width }
+    ensures widths { widths nets.new ≡ widths nets.old }
+    ensures digits { (x : Bit) → digits_in nets.new x.0 x.1 ≡ (if covers x.0 x.1 root.now then taken_digit from.now.number root.now x else digits_in nets.old x.0 x.1) }
+{
+    let net = nets.at(root.net as usize);
+    net.copy(root.at, from, offset_of(&root.by), root.width);
+}
+
+/// Writes the bits of the listed roots, which take from one value. It takes no memory.
+pub(crate) fn spread(nets: &mut Values<Bits>, roots: &[Drive], places: &[u32], from: &Bits)
+    requires apart { AreApart roots.now }
+    requires inside { AreRootsInside nets.old roots.now }
+    requires listed { (j k : ℕ) → slice_get places.now j ≡ Some k → (r : TheDrive) × (slice_get roots.now k ≡ Some r) × (offset_of r.by + r.width ≤ from.now.width) }
+    ensures widths { widths nets.new ≡ widths nets.old }
+    ensures spread { IsSpread roots.now places.now (length places.now) from.now.number nets.old nets.new }
+{
+    for place in places {
+        let root = &roots[*place as usize];
+        put(nets, root, from);
+    }
+}
+
+/// Writes the bits of a root that takes a kept value.
+fn put_kept(
+    nets: &mut Values<Bits>,
+    root: &Drive,
+    inputs: &[Bits],
+    regs: &[Bits],
+    reads: &[Values<Bits>],
+)
+    requires inside { IsRootInside nets.old root.now }
+    requires kept { HasKept (record { inputs = inputs.now; regs = regs.now; reads = reads.now }) root.now }
+    ensures widths { widths nets.new ≡ widths nets.old }
+    ensures digits { (v : BitValue) (x : Bit) → is_kept root.now.by ≡ true → kept_value (record { inputs = inputs.now; regs = regs.now; reads = reads.now }) root.now.by ≡ Some v
+        → digits_in nets.new x.0 x.1 ≡ (if covers x.0 x.1 root.now then taken_digit v.number root.now x else digits_in nets.old x.0 x.1) }
+    ensures other { is_kept root.now.by ≡ false → nets.new ≡ nets.old }
+{
+    match &root.by {
+        By::Const(v) => put(nets, root, v),
+        By::Input(n, _) => put(nets, root, &inputs[*n as usize]),
+        By::Reg(n, _) => put(nets, root, &regs[*n as usize]),
+        By::Read(m, n, _) => put(nets, root, &reads[*m as usize].as_slice()[*n as usize]),
+        By::Wire(_, _) | By::Cell(_, _) => {}
+    }
+}
+
+/// Writes the bits of all roots that take kept values.
+pub(crate) fn seed(
+    nets: &mut Values<Bits>,
+    roots: &[Drive],
+    inputs: &[Bits],
+    regs: &[Bits],
+    reads: &[Values<Bits>],
+)
+    requires apart { AreApart roots.now }
+    requires inside { AreRootsInside nets.old roots.now }
+    requires kept { (i : ℕ) (r : TheDrive) → slice_get roots.now i ≡ Some r → HasKept (record { inputs = inputs.now; regs = regs.now; reads = reads.now }) r }
+    ensures widths { widths nets.new ≡ widths nets.old }
+    ensures seeded { IsSeeded roots.now (record { inputs = inputs.now; regs = regs.now; reads = reads.now }) (length roots.now) nets.old nets.new }
+{
+    for root in roots {
+        put_kept(nets, root, inputs, regs, reads);
+    }
+}
