@@ -16,7 +16,7 @@ use Rattle.eval_commit.specs.Held.{HasKept, IsSeeded, Kept, is_kept, kept_value}
 
 -- ---- what stays inside where widths stay
 
-as_many : (vs ws : List BitValue) → widths ws ≡ widths vs → length ws ≡ length vs
+pub as_many : (vs ws : List BitValue) → widths ws ≡ widths vs → length ws ≡ length vs
 as_many vs ws e = sym (length-map ws (λ (v : BitValue). v.width)) ∙ ap length e ∙ length-map vs (λ (v : BitValue). v.width)
 
 pub still_inside : (vs ws : List BitValue) → widths ws ≡ widths vs → (r : Drive) → IsRootInside vs r → IsRootInside ws r

@@ -19,7 +19,7 @@ pub put_widths : (nets : List BitValue) (n : ℕ) (x y : BitValue) → slice_get
 put_widths nets n x y at e =
     map-set_same (λ (v : BitValue). v.width) nets n y x (e ∙ sym (ap (λ (v : BitValue). v.width) (get_or_from_slice_get nets n x x at)))
 
-number_set : (nets : List BitValue) (n : ℕ) (x y : BitValue) → slice_get nets n ≡ Some x → slice_index (numbers (set nets n y)) n ≡ y.number
+pub number_set : (nets : List BitValue) (n : ℕ) (x y : BitValue) → slice_get nets n ≡ Some x → slice_index (numbers (set nets n y)) n ≡ y.number
 number_set nets n x y at =
     ap (λ (ns : List ℕ). get_or ns n 0) (map-set (λ (v : BitValue). v.number) nets n y)
     ∙ get_or-set_same (numbers nets) n y.number 0 (let lt : n < length nets = within nets n x at in let l : length (numbers nets) ≡ length nets = length-map nets (λ (v : BitValue). v.number) in omega (arith, lt, l))
@@ -28,7 +28,7 @@ number_other : (nets : List BitValue) (n m : ℕ) (y : BitValue) → m ≢ n →
 number_other nets n m y ne =
     ap (λ (ns : List ℕ). get_or ns m 0) (map-set (λ (v : BitValue). v.number) nets n y) ∙ get_or-set_other (numbers nets) n m y.number 0 ne
 
-number_in : (nets : List BitValue) (n : ℕ) (x : BitValue) → slice_get nets n ≡ Some x → slice_index (numbers nets) n ≡ x.number
+pub number_in : (nets : List BitValue) (n : ℕ) (x : BitValue) → slice_get nets n ≡ Some x → slice_index (numbers nets) n ≡ x.number
 number_in nets n x at = go nets n at
   where
     go : (vs : List BitValue) (k : ℕ) → slice_get vs k ≡ Some x → slice_index (numbers vs) k ≡ x.number

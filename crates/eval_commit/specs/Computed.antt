@@ -1,0 +1,46 @@
+-- What the nodes of a plan compute.
+use Rattle.std.specs.Prelude.{◌≡◌, ℕ, List, length, Option, Some, None, slice_get}
+use Rattle.circuit.specs.Signal.{Digits, sig_number}
+use Rattle.circuit.specs.Output.{output}
+use Rattle.circuit.specs.State.{row_at}
+use Rattle.circuit.specs.declared.netlist.Circuit.{Circuit}
+use Rattle.circuit.specs.declared.cell.Cell.{Cell}
+use Rattle.circuit.specs.declared.memory.Mem.{Mem}
+use Rattle.circuit.specs.declared.memory.ReadPort.{ReadPort}
+use Rattle.driver_check.specs.Sources.{cell_row, read_row}
+use Rattle.driver_check.specs.declared.plan.Node.{Node}
+use Rattle.driver_check.specs.declared.plan.Node.TheVariants as node
+use Rattle.driver_check.specs.declared.sources.Sources.{Sources}
+use Rattle.memory_cells.specs.Rows.{AreRowsOf, RowValues}
+
+-- the places of the roots that take from a node
+abbrev pub node_row : Sources → Node → List ℕ
+node_row s (node.Cell n) = cell_row s n
+node_row s (node.Read m n) = read_row s m n
+
+abbrev pub cell_number : Digits → Option Cell → ℕ
+cell_number digits None = 0
+cell_number digits (Some x) = output digits x
+
+abbrev pub port_number : Digits → Mem → RowValues → Option ReadPort → ℕ
+port_number digits m r None = 0
+port_number digits m r (Some p) = row_at m r.rows (sig_number digits p.addr)
+
+abbrev pub read_number : Digits → Option Mem → Option RowValues → ℕ → ℕ
+read_number digits (Some m) (Some r) n = port_number digits m r (slice_get m.reads n)
+read_number digits _ _ n = 0
+
+-- the output of a cell, or the row at the address of a read port
+abbrev pub computed : Circuit → List RowValues → Digits → Node → ℕ
+computed c rows digits (node.Cell n) = cell_number digits (slice_get c.cells n)
+computed c rows digits (node.Read m n) = read_number digits (slice_get c.mems m) (slice_get rows m) n
+
+-- the steps that a node takes
+abbrev pub steps_of : Node → ℕ
+steps_of (node.Cell n) = 1
+steps_of (node.Read m n) = 0
+
+-- the rows of each memory
+pub record AreAllRows (c : Circuit) (rows : List RowValues) : Type 0 where
+  pub long : length rows ≡ length c.mems
+  pub each : (n : ℕ) (m : Mem) (r : RowValues) → slice_get c.mems n ≡ Some m → slice_get rows n ≡ Some r → AreRowsOf m r
