@@ -1,8 +1,10 @@
 -- The roots of a circuit over its stores.
-use Rattle.std.proofs.Common.{◌≡◌, ℕ, ◌+◌, ◌-◌, ◌<◌, ◌≤◌, List, map, length, set, get_or, refl, sym, ◌∙◌, ap, subst, arith, true, Some, nat_le, nat_lt}
-use Rattle.std.specs.Prelude.{slice_get, slice_index}
+use Rattle.std.proofs.Common.{◌≡◌, ℕ, ◌+◌, ◌-◌, ◌<◌, ◌≤◌, List, map, length, set, take, get_or, refl, sym, ◌∙◌, ap, subst, arith, true, Some, nat_le, nat_lt}
+use Rattle.std.specs.Prelude.{slice_get, slice_index, sum_by}
 use Rattle.std.proofs.lemmas.Bool.{and_parts, leb-true, ltb-true}
 use Rattle.std.proofs.lemmas.List.{length-map}
+use Rattle.std.proofs.lemmas.List.Sums.{sum_by_more}
+use Rattle.std.proofs.lemmas.Option.{slice_get-get_or}
 use Rattle.sim_base.specs.BitValue.{BitValue, bit_value}
 use Rattle.circuit.specs.Output.{output}
 use Rattle.circuit.specs.Signal.{Digits, sig_number}
@@ -140,3 +142,18 @@ pub read_at : (digits : Digits) (mems : List Mem) (rows : List RowValues) (m n :
     → read_number digits (slice_get mems m) (slice_get rows m) n ≡ row_at x r.rows (sig_number digits p.addr)
 read_at digits mems rows m n x r p a b e =
     ap (λ o. read_number digits o (slice_get rows m) n) a ∙ ap (λ o. read_number digits (Some x) o n) b ∙ ap (port_number digits x r) e
+
+-- ---- an element of a loop over a list
+
+pub element : {X : Type 0} (xs ys : List X) (k : ℕ) (d : X) → ys ≡ xs → k < length ys → slice_get xs k ≡ Some (get_or ys k d)
+element xs ys k d e lt = subst (λ (zs : List _). slice_get zs k ≡ Some (get_or ys k d)) e (slice_get-get_or ys k d lt)
+
+pub counted_more : {X : Type 0} (f : X → ℕ) (xs ys : List X) (k start old new : ℕ) (d : X) → ys ≡ xs → k < length ys → new ≡ old + f (get_or ys k d) → old ≡ start + sum_by f (take k xs) → new ≡ start + sum_by f (take (k + 1) xs)
+counted_more f xs ys k start old new d e lt now was =
+    let at : f (get_or ys k d) ≡ f (get_or xs k d) = ap (λ (zs : List _). f (get_or zs k d)) e in
+    let l : length ys ≡ length xs = ap length e in
+    let more : sum_by f (take (k + 1) xs) ≡ sum_by f (take k xs) + f (get_or xs k d) = sum_by_more f xs k d (omega (arith, lt, l)) in
+    omega (arith, at, more, now, was)
+
+pub ended : {X : Type 0} (xs ys : List X) (k : ℕ) → ys ≡ xs → length ys ≤ k → k ≤ length ys → k ≡ length xs
+ended xs ys k e a b = let l : length ys ≡ length xs = ap length e in omega (arith, l, a, b)

@@ -1,3 +1,4 @@
 pub mod Spread
 pub mod Held
 pub mod Computed
+pub mod Round

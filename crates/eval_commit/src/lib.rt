@@ -3,3 +3,6 @@
 
 mod node;
 mod put;
+mod round;
+
+pub use round::evaluate;

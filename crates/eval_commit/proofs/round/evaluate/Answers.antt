@@ -1,0 +1,52 @@
+use Rattle.std.proofs.Common.{◌≡◌, ℕ, List, length, refl, sym, ◌∙◌, ap, subst, arith}
+use Rattle.signal_words.specs.Values.{digits_in, numbers}
+use Rattle.circuit.specs.Valuation.{digit_at}
+use Rattle.driver_check.specs.declared.plan.Node.TheVariants as node
+use Rattle.eval_commit.specs.Computed.{steps_of}
+use Rattle.eval_commit.proofs.Belonging.{counted_more, element, ended}
+use Rattle.eval_commit.proofs.Keeping.{has_kept}
+use Rattle.eval_commit.proofs.Meaning.{AreRight, all_right}
+use Rattle.eval_commit.proofs.Rounding.{node_right, seeded_blank, seeded_right, spread_blank}
+use Rattle.eval_commit.proofs.round.evaluate.Goals as goal
+
+pub loop-node-init : goal.loop-node-init
+loop-node-init g c = record {
+  belongs = c.seed_store.ensures.store;
+  regs = c.seed_store.ensures.regs;
+  reads = c.seed_store.ensures.reads;
+  rooms_same = refl;
+  blank = seeded_blank c.args.plan.now.roots c.args.inputs.now c.args.store.now (length c.args.plan.now.roots) c.args.store.now.nets c.seed_store.new.store.nets c.seed_store.ensures.seeded c.requires.blank;
+  right = λ state digits holds valued.
+      seeded_right c.args.circuit.now c.args.inputs.now c.args.rows.now c.args.store.now state digits c.args.plan.now.nodes c.requires.store holds c.args.plan.now.roots c.args.store.now.nets c.seed_store.new.store.nets
+      c.requires.roots valued (has_kept c.args.circuit.now c.args.inputs.now c.args.store.now c.requires.inputs c.requires.store c.args.plan.now.roots c.requires.roots) c.requires.blank c.seed_store.ensures.seeded;
+  counted = omega arith;
+}
+
+pub compute-requires-clause-there : goal.compute-requires-clause-there
+compute-requires-clause-there g c =
+    c.requires.nodes.there c.loop-node.node-index _ (element c.args.plan.now.nodes c.as_slice-node-items.result.now c.loop-node.node-index (node.Cell 0) c.as_slice-node-items.ensures c.loop-node-test.true)
+
+pub loop-node-preserved : goal.loop-node-preserved
+loop-node-preserved g c =
+    let at = element c.args.plan.now.nodes c.as_slice-node-items.result.now c.loop-node.node-index (node.Cell 0) c.as_slice-node-items.ensures c.loop-node-test.true in
+    record {
+      belongs = c.compute.ensures.store;
+      regs = c.compute.ensures.regs ∙ c.loop-node.invariant.regs;
+      reads = c.compute.ensures.reads ∙ c.loop-node.invariant.reads;
+      rooms_same = c.compute.ensures.rooms ∙ c.loop-node.invariant.rooms_same;
+      blank = spread_blank c.args.plan.now.roots _ _ _ c.loop-node.store.nets c.compute.new.store.nets c.compute.ensures.spread c.loop-node.invariant.blank;
+      right = λ state digits holds valued.
+          node_right c.args.circuit.now c.args.inputs.now c.args.rows.now c.args.store.now state digits c.args.plan.now.nodes c.args.plan.now.roots c.args.plan.now.sources
+          c.requires.nodes c.requires.roots c.requires.sources c.requires.rows holds valued c.loop-node.node-index c.loop-node.store.nets (c.loop-node.invariant.right state digits holds valued) _ c.compute.new.store.nets at c.compute.ensures.spread;
+      counted = counted_more steps_of c.args.plan.now.nodes c.as_slice-node-items.result.now c.loop-node.node-index c.args.steps.now c.loop-node.steps c.compute.new.steps (node.Cell 0)
+          c.as_slice-node-items.ensures c.loop-node-test.true c.compute.ensures.steps c.loop-node.invariant.counted;
+    }
+
+pub returns-clause-digits : goal.returns-clause-digits
+returns-clause-digits g c state holds net bit =
+    let end : c.loop-node.node-index ≡ length c.args.plan.now.nodes =
+    ended c.args.plan.now.nodes c.as_slice-node-items.result.now c.loop-node.node-index c.as_slice-node-items.ensures c.loop-node-test.false c.loop-node.auto.node-index-end in
+    all_right c.args.circuit.now c.args.plan.now.nodes c.args.plan.now.roots (digit_at c.args.circuit.now state (numbers c.args.inputs.now)) c.loop-node.store.nets c.requires.nodes c.requires.roots
+    (subst (λ (k : ℕ). AreRight c.args.circuit.now c.args.plan.now.nodes c.args.plan.now.roots k (digit_at c.args.circuit.now state (numbers c.args.inputs.now)) c.loop-node.store.nets) end
+    (c.loop-node.invariant.right state (digit_at c.args.circuit.now state (numbers c.args.inputs.now)) holds (c.one_valuation.ensures.valuation state (numbers c.args.inputs.now))))
+    net bit

@@ -1,0 +1,19 @@
+use Rattle.std.proofs.Common.{◌≡◌, List, sym, ap, subst, Some}
+use Rattle.std.specs.Prelude.{slice_get}
+use Rattle.sim_base.specs.BitValue.{BitValue}
+use Rattle.circuit.specs.declared.netlist.Drive.{Drive}
+use Rattle.eval_commit.specs.Held.{HasKept}
+use Rattle.eval_commit.proofs.Belonging.{roots_inside}
+use Rattle.eval_commit.proofs.Keeping.{has_kept}
+use Rattle.eval_commit.proofs.round.seed_store.Goals as goal
+
+pub seed-requires-clause-inside : goal.seed-requires-clause-inside
+seed-requires-clause-inside c =
+    roots_inside c.args.circuit.now c.args.store.now.nets c.args.plan.now.roots c.as_slice.result.now c.as_slice.ensures c.requires.store.nets c.requires.roots
+
+pub seed-requires-clause-kept : goal.seed-requires-clause-kept
+seed-requires-clause-kept c i r at =
+    subst (λ (rs : List BitValue). HasKept (record { inputs = c.args.inputs.now; regs = rs; reads = c.as_slice-reads.result.now }) r) (sym c.as_slice-regs.ensures)
+    (subst (λ (os : List (List BitValue)). HasKept (record { inputs = c.args.inputs.now; regs = c.args.store.now.regs; reads = os }) r) (sym c.as_slice-reads.ensures)
+    (has_kept c.args.circuit.now c.args.inputs.now c.args.store.now c.requires.inputs c.requires.store c.args.plan.now.roots c.requires.roots i r
+    (subst (λ (ds : List Drive). slice_get ds i ≡ Some r) c.as_slice.ensures at)))

@@ -1,0 +1,75 @@
+//! One valuation of the nets.
+ghost use Rattle.std.specs.Prelude.{◌≡◌, ℕ, ◌+◌, true, length, map, sum_by};
+ghost use Rattle.circuit.specs.Free.{IsInOrder};
+ghost use Rattle.circuit.specs.State.{State};
+ghost use Rattle.circuit.specs.Valid.{is_valid};
+ghost use Rattle.circuit.specs.Valuation.{IsValuation, digit_at, valuation};
+ghost use Rattle.driver_check.specs.Ordered.{IsOrdered};
+ghost use Rattle.driver_check.specs.Roots.{AreRoots};
+ghost use Rattle.driver_check.specs.Sources.{AreSources};
+ghost use Rattle.signal_words.specs.Stores.{IsStoreOf};
+ghost use Rattle.signal_words.specs.Values.{digits_in, numbers, widths};
+ghost use Rattle.eval_commit.specs.Computed.{AreAllRows, steps_of};
+ghost use Rattle.eval_commit.specs.Held.{IsSeeded};
+ghost use Rattle.eval_commit.specs.Round.{AreInputsOf, Holds, IsBlank};
+
+use crate::node::compute;
+use crate::put::seed;
+use circuit::{Circuit, Store, one_valuation};
+use driver_check::Plan;
+use memory_cells::Rows;
+use sim_base::{Bits, Steps};
+use std::sync::ledger::Ledger;
+
+/// Writes the bits of the roots that take constants, inputs, registers and read ports.
+fn seed_store(circuit: &Circuit, plan: &Plan, inputs: &[Bits], store: &mut Store)
+    requires roots { AreRoots circuit.now plan.now.roots }
+    requires inputs { AreInputsOf circuit.now inputs.now }
+    requires store { IsStoreOf circuit.now store.old }
+    ensures store { IsStoreOf circuit.now store.new }
+    ensures regs { store.new.regs ≡ store.old.regs }
+    ensures reads { store.new.reads ≡ store.old.reads }
+    ensures seeded { IsSeeded plan.now.roots (record { inputs = inputs.now; regs = store.old.regs; reads = store.old.reads }) (length plan.now.roots) store.old.nets store.new.nets }
+{
+    let _ = circuit;
+    let regs = store.regs.as_slice();
+    let reads = store.reads.as_slice();
+    seed(&mut store.nets, plan.roots.as_slice(), inputs, regs, reads);
+}
+
+/// Gives each net the number that it has under the state that the store and the rows hold, and under these
+/// inputs: one value for each, in the order of the circuit's inputs. Each memory lends a room of the width
+/// of its rows. Takes a step for each cell, and no memory.
+pub fn evaluate<L: Ledger>(
+    circuit: &Circuit,
+    plan: &Plan,
+    inputs: &[Bits],
+    rows: &[Rows],
+    rooms: &mut [Bits],
+    store: &mut Store,
+    steps: &mut Steps<L>,
+)
+    requires valid { is_valid circuit.now ≡ true }
+    requires order { IsInOrder circuit.now }
+    requires nodes { IsOrdered circuit.now plan.now.nodes }
+    requires roots { AreRoots circuit.now plan.now.roots }
+    requires sources { AreSources circuit.now plan.now.roots plan.now.sources }
+    requires inputs { AreInputsOf circuit.now inputs.now }
+    requires rows { AreAllRows circuit.now rows.now }
+    requires rooms { widths rooms.old ≡ map (λ m. m.width) circuit.now.mems }
+    requires store { IsStoreOf circuit.now store.old }
+    requires blank { IsBlank plan.now.roots store.old.nets }
+    ensures digits { (state : State) → Holds circuit.now rows.now store.old state → (net bit : ℕ) → digits_in store.new.nets net bit ≡ digit_at circuit.now state (numbers inputs.now) net bit }
+    ensures store { IsStoreOf circuit.now store.new }
+    ensures regs { store.new.regs ≡ store.old.regs }
+    ensures reads { store.new.reads ≡ store.old.reads }
+    ensures rooms { widths rooms.new ≡ widths rooms.old }
+    ensures blank { IsBlank plan.now.roots store.new.nets }
+    ensures steps { steps.new ≡ steps.old + sum_by steps_of plan.now.nodes }
+{
+    one_valuation(circuit);
+    seed_store(circuit, plan, inputs, store);
+    for node in plan.nodes.as_slice() {
+        compute(circuit, plan, *node, rows, rooms, store, steps);
+    }
+}
