@@ -4,3 +4,5 @@ pub mod Belonging
 pub mod Keeping
 pub mod Meaning
 pub mod Rounding
+pub mod Valued
+pub mod Stepped

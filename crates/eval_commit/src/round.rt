@@ -1,15 +1,15 @@
 //! One valuation of the nets.
-ghost use Rattle.std.specs.Prelude.{◌≡◌, ℕ, ◌+◌, true, length, map, sum_by};
+ghost use Rattle.std.specs.Prelude.{◌≡◌, ℕ, ◌+◌, true, length, map};
 ghost use Rattle.circuit.specs.Free.{IsInOrder};
 ghost use Rattle.circuit.specs.State.{State};
 ghost use Rattle.circuit.specs.Valid.{is_valid};
-ghost use Rattle.circuit.specs.Valuation.{IsValuation, digit_at, valuation};
+ghost use Rattle.circuit.specs.Valuation.{digit_at, valuation};
 ghost use Rattle.driver_check.specs.Ordered.{IsOrdered};
 ghost use Rattle.driver_check.specs.Roots.{AreRoots};
 ghost use Rattle.driver_check.specs.Sources.{AreSources};
 ghost use Rattle.signal_words.specs.Stores.{IsStoreOf};
 ghost use Rattle.signal_words.specs.Values.{digits_in, numbers, widths};
-ghost use Rattle.eval_commit.specs.Computed.{AreAllRows, steps_of};
+ghost use Rattle.eval_commit.specs.Computed.{AreAllRows};
 ghost use Rattle.eval_commit.specs.Held.{IsSeeded};
 ghost use Rattle.eval_commit.specs.Round.{AreInputsOf, Holds, IsBlank};
 
@@ -59,13 +59,14 @@ pub fn evaluate<L: Ledger>(
     requires rooms { widths rooms.old ≡ map (λ m. m.width) circuit.now.mems }
     requires store { IsStoreOf circuit.now store.old }
     requires blank { IsBlank plan.now.roots store.old.nets }
+    ensures nets { (state : State) → Holds circuit.now rows.now store.old state → numbers store.new.nets ≡ valuation circuit.now state (numbers inputs.now) }
     ensures digits { (state : State) → Holds circuit.now rows.now store.old state → (net bit : ℕ) → digits_in store.new.nets net bit ≡ digit_at circuit.now state (numbers inputs.now) net bit }
     ensures store { IsStoreOf circuit.now store.new }
     ensures regs { store.new.regs ≡ store.old.regs }
     ensures reads { store.new.reads ≡ store.old.reads }
     ensures rooms { widths rooms.new ≡ widths rooms.old }
     ensures blank { IsBlank plan.now.roots store.new.nets }
-    ensures steps { steps.new ≡ steps.old + sum_by steps_of plan.now.nodes }
+    ensures steps { steps.new ≡ steps.old + length circuit.now.cells }
 {
     one_valuation(circuit);
     seed_store(circuit, plan, inputs, store);

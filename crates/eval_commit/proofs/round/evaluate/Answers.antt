@@ -1,4 +1,4 @@
-use Rattle.std.proofs.Common.{◌≡◌, ℕ, List, length, refl, sym, ◌∙◌, ap, subst, arith}
+use Rattle.std.proofs.Common.{◌≡◌, ℕ, List, length, take, refl, sym, ◌∙◌, ap, subst, arith}
 use Rattle.signal_words.specs.Values.{digits_in, numbers}
 use Rattle.circuit.specs.Valuation.{digit_at}
 use Rattle.driver_check.specs.declared.plan.Node.TheVariants as node
@@ -7,6 +7,10 @@ use Rattle.eval_commit.proofs.Belonging.{counted_more, element, ended}
 use Rattle.eval_commit.proofs.Keeping.{has_kept}
 use Rattle.eval_commit.proofs.Meaning.{AreRight, all_right}
 use Rattle.eval_commit.proofs.Rounding.{node_right, seeded_blank, seeded_right, spread_blank}
+use Rattle.std.proofs.Math.Seq.{take-length}
+use Rattle.eval_commit.proofs.Stepped.{steps_are}
+use Rattle.eval_commit.proofs.Valued.{valued}
+use Rattle.std.specs.Prelude.{sum_by}
 use Rattle.eval_commit.proofs.round.evaluate.Goals as goal
 
 pub loop-node-init : goal.loop-node-init
@@ -50,3 +54,16 @@ returns-clause-digits g c state holds net bit =
     (subst (λ (k : ℕ). AreRight c.args.circuit.now c.args.plan.now.nodes c.args.plan.now.roots k (digit_at c.args.circuit.now state (numbers c.args.inputs.now)) c.loop-node.store.nets) end
     (c.loop-node.invariant.right state (digit_at c.args.circuit.now state (numbers c.args.inputs.now)) holds (c.one_valuation.ensures.valuation state (numbers c.args.inputs.now))))
     net bit
+
+pub returns-clause-nets : goal.returns-clause-nets
+returns-clause-nets g c state holds =
+    valued c.args.circuit.now state (numbers c.args.inputs.now) c.args.plan.now.roots c.loop-node.store.nets c.requires.roots (c.one_valuation.ensures.valuation state (numbers c.args.inputs.now)) c.loop-node.invariant.belongs.nets
+    (returns-clause-digits g c state holds)
+
+pub returns-clause-steps : goal.returns-clause-steps
+returns-clause-steps g c =
+    let end : c.loop-node.node-index ≡ length c.args.plan.now.nodes =
+    ended c.args.plan.now.nodes c.as_slice-node-items.result.now c.loop-node.node-index c.as_slice-node-items.ensures c.loop-node-test.false c.loop-node.auto.node-index-end in
+    let whole : sum_by steps_of (take c.loop-node.node-index c.args.plan.now.nodes) ≡ sum_by steps_of c.args.plan.now.nodes =
+    ap (λ (k : ℕ). sum_by steps_of (take k c.args.plan.now.nodes)) end ∙ ap (λ ns. sum_by steps_of ns) (take-length c.args.plan.now.nodes) in
+    omega (arith, whole, c.loop-node.invariant.counted, steps_are c.args.circuit.now c.args.plan.now.nodes c.requires.nodes)
