@@ -6,3 +6,4 @@ pub mod Meaning
 pub mod Rounding
 pub mod Valued
 pub mod Stepped
+pub mod Starting

@@ -12,9 +12,13 @@ use Rattle.driver_check.specs.Roots.{CoversIn}
 use Rattle.memory_cells.specs.Rows.{RowValues}
 use Rattle.signal_words.specs.Values.{digits_in, numbers, widths}
 
+-- the width of an input, which is a net
+abbrev pub input_width : Circuit → ℕ → ℕ
+input_width c net = slice_index (map (λ x. x.width) c.nets) net
+
 -- one value for each input, of the width of its net
 abbrev pub AreInputsOf : Circuit → List BitValue → Type 0
-AreInputsOf c inputs = widths inputs ≡ map (slice_index (map (λ x. x.width) c.nets)) c.inputs
+AreInputsOf c inputs = widths inputs ≡ map (input_width c) c.inputs
 
 -- a state is what a store and the rows of the memories keep; a read port without a clock keeps nothing
 pub record Holds (c : Circuit) (rows : List RowValues) (store : Store) (state : State) : Type 0 where

@@ -4,5 +4,7 @@
 mod node;
 mod put;
 mod round;
+mod start;
 
 pub use round::evaluate;
+pub use start::{law_of_first_state, rooms_of, start_rows, zero_inputs};

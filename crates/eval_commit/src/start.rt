@@ -1,0 +1,71 @@
+//! What stands before the first sample.
+ghost use Rattle.std.specs.Prelude.{◌≡◌, List, IfOk, map, true};
+ghost use Rattle.sim_base.specs.BitValue.{zeros};
+ghost use Rattle.circuit.specs.Run.{start_state};
+ghost use Rattle.circuit.specs.Store.{start_store};
+ghost use Rattle.circuit.specs.Valid.{is_valid};
+ghost use Rattle.circuit.specs.declared.netlist.Circuit.{Circuit as TheCircuit};
+ghost use Rattle.circuit.specs.declared.netlist.Drive.{Drive as TheDrive};
+ghost use Rattle.memory_cells.specs.Rows.{start_rows};
+ghost use Rattle.eval_commit.specs.Computed.{AreAllRows};
+ghost use Rattle.eval_commit.specs.Round.{AreInputsOf, Holds, IsBlank, input_width};
+
+use circuit::{Circuit, Values};
+use memory_cells::{Rows, law_of_memories};
+use sim_base::{Bits, NoMemory};
+use std::alloc::Global;
+
+/// The rows of each memory before the first sample.
+pub fn start_rows(alloc: Global, circuit: &Circuit) -> Result<Values<Rows>, NoMemory>
+    requires { is_valid circuit.now ≡ true }
+    ensures { IfOk result (λ rows. rows ≡ map start_rows circuit.now.mems) }
+{
+    law_of_memories();
+    let mut rows = Values::new(alloc);
+    for mem in circuit.mems.as_slice() {
+        rows.push(Rows::new(alloc, mem)?)?;
+    }
+    Ok(rows)
+}
+
+/// For each memory room for one of its rows.
+pub fn rooms_of(alloc: Global, circuit: &Circuit) -> Result<Vec<Bits>, NoMemory>
+    ensures { IfOk result (λ rooms. rooms.items ≡ map (λ m. zeros m.width) circuit.now.mems) }
+{
+    let mut rooms = Vec::new(alloc);
+    for mem in circuit.mems.as_slice() {
+        rooms.push(Bits::zero(alloc, mem.width)?)?;
+    }
+    Ok(rooms)
+}
+
+/// The width of an input, which is a net.
+fn input_width(circuit: &Circuit, net: u32) -> u32
+    ensures { result ≡ input_width circuit.now net }
+{
+    match circuit.nets.get(net as usize) {
+        Some(net) => net.width,
+        None => 0,
+    }
+}
+
+/// Inputs that are all 0.
+pub fn zero_inputs(alloc: Global, circuit: &Circuit) -> Result<Values<Bits>, NoMemory>
+    ensures { IfOk result (λ inputs. inputs ≡ map (λ net. zeros (input_width circuit.now net)) circuit.now.inputs) }
+{
+    let mut inputs = Values::new(alloc);
+    for net in circuit.inputs.as_slice() {
+        inputs.push(Bits::zero(alloc, input_width(circuit, *net))?)?;
+    }
+    Ok(inputs)
+}
+
+/// Before the first sample the store and the rows hold the start state, and all nets are 0.
+pub fn law_of_first_state()
+    ensures holds { (c : TheCircuit) → Holds c (map start_rows c.mems) (start_store c) (start_state c) }
+    ensures rows { (c : TheCircuit) → AreAllRows c (map start_rows c.mems) }
+    ensures blank { (c : TheCircuit) (roots : List TheDrive) → IsBlank roots (start_store c).nets }
+    ensures inputs { (c : TheCircuit) → AreInputsOf c (map (λ net. zeros (input_width c net)) c.inputs) }
+{
+    law_of_memories();
+}
