@@ -5,6 +5,8 @@ mod node;
 mod put;
 mod round;
 mod start;
+#[cfg(test)]
+mod tests;
 
 pub use round::evaluate;
 pub use start::{law_of_first_state, rooms_of, start_rows, zero_inputs};

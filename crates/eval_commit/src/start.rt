@@ -7,6 +7,7 @@ ghost use Rattle.circuit.specs.Valid.{is_valid};
 ghost use Rattle.circuit.specs.declared.netlist.Circuit.{Circuit as TheCircuit};
 ghost use Rattle.circuit.specs.declared.netlist.Drive.{Drive as TheDrive};
 ghost use Rattle.memory_cells.specs.Rows.{start_rows};
+ghost use Rattle.signal_words.specs.Values.{widths};
 ghost use Rattle.eval_commit.specs.Computed.{AreAllRows};
 ghost use Rattle.eval_commit.specs.Round.{AreInputsOf, Holds, IsBlank, input_width};
 
@@ -30,7 +31,7 @@ pub fn start_rows(alloc: Global, circuit: &Circuit) -> Result<Values<Rows>, NoMe
 
 /// For each memory room for one of its rows.
 pub fn rooms_of(alloc: Global, circuit: &Circuit) -> Result<Vec<Bits>, NoMemory>
-    ensures { IfOk result (λ rooms. rooms.items ≡ map (λ m. zeros m.width) circuit.now.mems) }
+    ensures { IfOk result (λ rooms. widths rooms.items ≡ map (λ m. m.width) circuit.now.mems) }
 {
     let mut rooms = Vec::new(alloc);
     for mem in circuit.mems.as_slice() {
