@@ -1,7 +1,7 @@
 -- The roots of a circuit over its stores.
-use Rattle.std.proofs.Common.{◌≡◌, ℕ, ◌+◌, ◌-◌, ◌<◌, ◌≤◌, List, map, length, set, take, get_or, refl, sym, ◌∙◌, ap, subst, arith, true, Some, nat_le, nat_lt}
+use Rattle.std.proofs.Common.{◌≡◌, ℕ, ◌+◌, ◌<◌, ◌≤◌, List, map, length, set, take, get_or, refl, sym, ◌∙◌, ap, subst, arith, true, Some, nat_le, nat_lt}
 use Rattle.std.specs.Prelude.{slice_get, slice_index, sum_by}
-use Rattle.std.proofs.lemmas.Bool.{and_parts, leb-true, ltb-true}
+use Rattle.std.proofs.lemmas.Bool.{and_parts, leb-true}
 use Rattle.std.proofs.lemmas.List.{length-map}
 use Rattle.std.proofs.lemmas.List.Sums.{sum_by_more}
 use Rattle.std.proofs.lemmas.Option.{slice_get-get_or}

@@ -1,11 +1,10 @@
 -- What roots take is there.
-use Rattle.std.proofs.Common.{◌≡◌, ℕ, zero, suc, ◌+◌, ◌-◌, ◌<◌, ◌≤◌, List, [], ◌∷◌, map, length, get_or, refl, sym, ◌∙◌, ap, subst, arith, Bool, true, false, Option, Some, None, nat_le, nat_lt}
-use Rattle.std.specs.Prelude.{◌==◌, option_and_then, slice_get, slice_index}
+use Rattle.std.proofs.Common.{◌≡◌, ℕ, zero, suc, ◌+◌, ◌≤◌, List, [], ◌∷◌, map, length, refl, ◌∙◌, ap, subst, arith, true, Option, Some, None, nat_le, nat_lt}
+use Rattle.std.specs.Prelude.{option_and_then, slice_get, slice_index}
 use Rattle.std.proofs.lemmas.Bool.{and_parts, leb-true, ltb-true}
 use Rattle.std.proofs.lemmas.Bool.Decides.{nat_tests}
-use Rattle.std.proofs.lemmas.List.{length-map}
 use Rattle.sim_base.specs.BitValue.{BitValue}
-use Rattle.circuit.specs.Valid.{driver_fits, drive_fits, input_holds, net_holds, port_holds, reaches, register_holds}
+use Rattle.circuit.specs.Valid.{driver_fits, input_holds, port_holds, reaches, register_holds}
 use Rattle.circuit.specs.declared.netlist.Circuit.{Circuit}
 use Rattle.circuit.specs.declared.netlist.Net.{Net}
 use Rattle.circuit.specs.declared.netlist.Drive.{Drive}
@@ -16,9 +15,9 @@ use Rattle.circuit.specs.declared.memory.Mem.{Mem}
 use Rattle.circuit.specs.declared.store.Store.{Store}
 use Rattle.driver_check.specs.Roots.{AreRoots}
 use Rattle.driver_check.proofs.Given.{root_fits}
-use Rattle.driver_check.proofs.Places.{found, same, within}
+use Rattle.driver_check.proofs.Places.{found}
 use Rattle.signal_words.specs.Stores.{IsStoreOf}
-use Rattle.signal_words.specs.Values.{numbers, widths}
+use Rattle.signal_words.specs.Values.{widths}
 use Rattle.signal_words.proofs.Fitting.{mapped_at}
 use Rattle.eval_commit.specs.Held.{HasKept, Kept, is_kept, kept_value}
 use Rattle.eval_commit.specs.Round.{AreInputsOf}

@@ -1,29 +1,24 @@
 -- What the roots of a circuit give under its valuation.
-use Rattle.std.proofs.Common.{◌≡◌, ℕ, zero, suc, ◌+◌, ◌-◌, ◌<◌, ◌≤◌, ◌⊎◌, List, [], ◌∷◌, length, refl, sym, ◌∙◌, ap, subst, arith, inl, inr, Bool, true, false, cond, Option, Some, None}
-use Rattle.std.specs.Prelude.{option_and_then, slice_get, slice_index}
+use Rattle.std.proofs.Common.{◌≡◌, ℕ, zero, suc, ◌+◌, ◌-◌, ◌⊎◌, List, [], ◌∷◌, length, refl, sym, ◌∙◌, ap, subst, inl, inr, true, false, Option, Some, None}
+use Rattle.std.specs.Prelude.{slice_get, slice_index}
 use Rattle.std.specs.Int.{bit_at}
-use Rattle.std.proofs.lemmas.Bool.{cases_eq, cases_Bool, cond-true, cond-false, false≢true}
+use Rattle.std.proofs.lemmas.Bool.{cases_Bool, false≢true}
 use Rattle.sim_base.specs.BitValue.{BitValue}
-use Rattle.circuit.specs.Signal.{Digits, Reads, sig_number}
-use Rattle.circuit.specs.Output.{ReadsBit, output}
-use Rattle.circuit.specs.State.{State, Stored, row_at}
-use Rattle.circuit.specs.Valid.{driver_fits, port_holds}
-use Rattle.circuit.specs.Valuation.{IsValuation, cell_digit, covers, drive_of, driven, given, port_digit, port_number, read_digit}
+use Rattle.circuit.specs.Signal.{Digits}
+use Rattle.circuit.specs.State.{State}
+use Rattle.circuit.specs.Valid.{driver_fits}
+use Rattle.circuit.specs.Valuation.{IsValuation, cell_digit, covers, drive_of, driven, given, read_digit}
 use Rattle.circuit.specs.declared.netlist.Circuit.{Circuit}
 use Rattle.circuit.specs.declared.netlist.Drive.{Drive}
 use Rattle.circuit.specs.declared.netlist.By.{By}
 use Rattle.circuit.specs.declared.netlist.By.TheVariants as by
-use Rattle.circuit.specs.declared.cell.Cell.{Cell}
-use Rattle.circuit.specs.declared.memory.Mem.{Mem}
-use Rattle.circuit.specs.declared.memory.ReadPort.{ReadPort}
-use Rattle.circuit.proofs.Same.{cell_same, sig_same}
 use Rattle.driver_check.specs.Depends.{Bit}
-use Rattle.driver_check.specs.Ordered.{CellBit, Digit, InputBit, IsAmong, IsFinal, IsNode, IsOrdered, IsThere, NodeReads, ReadBit, RegBit, Source, source_at, source_by, source_within}
+use Rattle.driver_check.specs.Ordered.{CellBit, Digit, InputBit, IsAmong, IsFinal, IsNode, IsOrdered, IsThere, ReadBit, RegBit, Source, source_at, source_by, source_within}
 use Rattle.driver_check.specs.Roots.{AreRoots, CoversIn, root_source}
 use Rattle.driver_check.specs.declared.plan.Node.{Node}
 use Rattle.driver_check.specs.declared.plan.Node.TheVariants as node
 use Rattle.driver_check.proofs.Given.{by_cell, root_fits}
-use Rattle.driver_check.proofs.Places.{same, within}
+use Rattle.driver_check.proofs.Places.{within}
 use Rattle.signal_words.specs.Values.{digits_in}
 
 -- ---- sources

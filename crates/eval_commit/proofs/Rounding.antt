@@ -1,25 +1,24 @@
 -- The nets become right node by node.
-use Rattle.std.proofs.Common.{◌≡◌, ℕ, zero, suc, ◌+◌, ◌-◌, ◌<◌, ◌≤◌, ◌⊎◌, List, [], ◌∷◌, length, refl, sym, ◌∙◌, ap, subst, arith, inl, inr, Bool, true, false, cond, Option, Some, None, nat_le, nat_lt}
+use Rattle.std.proofs.Common.{◌≡◌, ℕ, zero, suc, ◌+◌, ◌-◌, ◌<◌, ◌⊎◌, List, [], ◌∷◌, length, refl, sym, ◌∙◌, ap, subst, arith, inl, inr, true, Option, Some, None, nat_le, nat_lt}
 use Rattle.std.specs.Prelude.{option_and_then, slice_get, slice_index}
 use Rattle.std.specs.Int.{bit_at}
 use Rattle.std.proofs.lemmas.Bool.{and_parts, cases_eq, cases_Bool, cond-true, cond-false, false≢true, ltb-true}
 use Rattle.sim_base.specs.BitValue.{BitValue}
 use Rattle.circuit.specs.Signal.{Digits, Reads, sig_number}
 use Rattle.circuit.specs.Output.{ReadsBit, output}
-use Rattle.circuit.specs.State.{State, Stored, row_at}
+use Rattle.circuit.specs.State.{State, row_at}
 use Rattle.circuit.specs.Valid.{driver_fits, port_holds}
 use Rattle.circuit.specs.Valuation.{IsValuation, cell_digit, covers, given, port_digit, read_digit}
 use Rattle.circuit.specs.declared.netlist.Circuit.{Circuit}
 use Rattle.circuit.specs.declared.netlist.Drive.{Drive}
 use Rattle.circuit.specs.declared.netlist.By.{By}
 use Rattle.circuit.specs.declared.netlist.By.TheVariants as by
-use Rattle.circuit.specs.declared.cell.Cell.{Cell}
 use Rattle.circuit.specs.declared.memory.Mem.{Mem}
 use Rattle.circuit.specs.declared.memory.ReadPort.{ReadPort}
 use Rattle.circuit.specs.declared.store.Store.{Store}
 use Rattle.circuit.proofs.Same.{cell_same, sig_same}
 use Rattle.driver_check.specs.Depends.{Bit, CellReads, MemReads, PortReads}
-use Rattle.driver_check.specs.Ordered.{IsAmong, IsNode, IsOrdered}
+use Rattle.driver_check.specs.Ordered.{IsNode, IsOrdered}
 use Rattle.driver_check.specs.Roots.{AreRoots, CoversIn}
 use Rattle.driver_check.specs.Sources.{AreSources, RootBy, TakesPart}
 use Rattle.driver_check.specs.Tables.{Lists}
@@ -31,10 +30,10 @@ use Rattle.driver_check.proofs.Places.{found, same, within}
 use Rattle.memory_cells.specs.Rows.{RowValues}
 use Rattle.signal_words.specs.Stores.{IsStoreOf}
 use Rattle.signal_words.specs.Values.{digits_in, numbers}
-use Rattle.eval_commit.specs.Computed.{AreAllRows, cell_number, computed, node_row, read_number}
+use Rattle.eval_commit.specs.Computed.{AreAllRows, cell_number, computed, node_row}
 use Rattle.eval_commit.specs.Held.{HasKept, IsSeeded, is_kept, kept_value}
 use Rattle.eval_commit.specs.Round.{Holds, IsBlank}
-use Rattle.eval_commit.specs.Spread.{IsCovered, IsSpread, offset_of, taken_digit}
+use Rattle.eval_commit.specs.Spread.{IsCovered, IsSpread, offset_of}
 use Rattle.eval_commit.proofs.Belonging.{read_at}
 use Rattle.eval_commit.proofs.Keeping.{kept_of, outs_at}
 use Rattle.eval_commit.proofs.Meaning.{AreRight, IsThereBy, covering, final_right, root_right, undriven_right}

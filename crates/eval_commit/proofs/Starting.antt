@@ -1,12 +1,12 @@
 -- The state before the first sample.
-use Rattle.std.proofs.Common.{◌≡◌, ℕ, zero, suc, List, [], ◌∷◌, map, length, refl, sym, ◌∙◌, ap, subst, true, cond, Option, Some, None}
+use Rattle.std.proofs.Common.{◌≡◌, ℕ, zero, suc, List, [], ◌∷◌, map, refl, sym, ◌∙◌, ap, subst, true, Some, None}
 use Rattle.std.specs.Prelude.{slice_get, slice_index}
 use Rattle.std.specs.Int.{bit_at}
 use Rattle.std.proofs.lemmas.Bool.{cond-true}
 use Rattle.std.proofs.lemmas.List.{length-map}
 use Rattle.std.proofs.lemmas.Nat.Bits.{bit_at-zero}
 use Rattle.sim_base.specs.BitValue.{BitValue, zeros}
-use Rattle.circuit.specs.Run.{parts, start_state, start_stored}
+use Rattle.circuit.specs.Run.{start_state, start_stored}
 use Rattle.circuit.specs.State.{Stored}
 use Rattle.circuit.specs.Store.{start_read, start_store}
 use Rattle.circuit.specs.declared.netlist.Circuit.{Circuit}
@@ -15,7 +15,6 @@ use Rattle.circuit.specs.declared.netlist.Drive.{Drive}
 use Rattle.circuit.specs.declared.register.Reg.{Reg}
 use Rattle.circuit.specs.declared.memory.Mem.{Mem}
 use Rattle.circuit.specs.declared.memory.ReadPort.{ReadPort}
-use Rattle.driver_check.proofs.Places.{found, same, within}
 use Rattle.memory_cells.specs.Rows.{AreRowsOf, RowValues, start_rows}
 use Rattle.signal_words.specs.Values.{numbers, widths}
 use Rattle.eval_commit.specs.Computed.{AreAllRows}
@@ -52,7 +51,7 @@ made_from f (z ∷ xs) (suc n) y b = made_from f xs n y b
 
 first_number : (x : Mem) (ps : List ReadPort) (n : ℕ) (p : ReadPort) → slice_get ps n ≡ Some p → p.clocked ≡ true
     → slice_index (map (λ (q : ReadPort). q.init.number) ps) n ≡ slice_index (numbers (map (start_read x) ps)) n
-first_number x [] n p a on = cc a
+first_number x [] n p a on = refl
 first_number x (q ∷ ps) zero p a on =
     let e : q ≡ p = cc a in
     ap (λ (v : BitValue). v.number) (sym (cond-true q.clocked q.init (zeros x.width) (ap (λ (r : ReadPort). r.clocked) e ∙ on)))

@@ -1,11 +1,6 @@
-use Rattle.std.proofs.Common.{◌≡◌, sym, ◌∙◌, ap}
-use Rattle.sim_base.specs.BitValue.{BitValue}
+use Rattle.std.proofs.Common.{sym, ◌∙◌}
 use Rattle.circuit.specs.declared.cell.Cell.{Cell}
-use Rattle.circuit.specs.declared.netlist.Net.{Net}
 use Rattle.driver_check.proofs.Places.{found}
-use Rattle.signal_words.specs.Values.{digits_in}
-use Rattle.eval_commit.specs.Computed.{cell_number}
-use Rattle.eval_commit.specs.Spread.{IsSpread}
 use Rattle.eval_commit.proofs.Written.{number_in}
 use Rattle.eval_commit.proofs.Belonging.{below_in, cell_listed, roots_inside, spread_as, value_read}
 use Rattle.eval_commit.proofs.node.compute_cell.Goals as goal

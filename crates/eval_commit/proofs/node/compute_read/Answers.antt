@@ -1,13 +1,12 @@
-use Rattle.std.proofs.Common.{◌≡◌, ◌<◌, sym, ◌∙◌, ap, subst, arith, length, get_or, refl, Some}
+use Rattle.std.proofs.Common.{◌≡◌, ◌<◌, sym, ◌∙◌, ap, subst, arith, length, refl, Some}
 use Rattle.std.specs.Prelude.{slice_get}
 use Rattle.std.proofs.lemmas.Option.{get_or_from_slice_get}
 use Rattle.sim_base.specs.BitValue.{BitValue}
 use Rattle.circuit.specs.declared.memory.Mem.{Mem}
 use Rattle.driver_check.proofs.Places.{found, read, same, within}
-use Rattle.signal_words.specs.Values.{digits_in, widths}
-use Rattle.eval_commit.specs.Computed.{read_number}
-use Rattle.eval_commit.proofs.Written.{number_in, put_widths}
-use Rattle.eval_commit.proofs.Belonging.{below_in, fetched, read_at, read_listed, roots_inside, spread_as, value_at, value_read}
+use Rattle.signal_words.specs.Values.{digits_in}
+use Rattle.eval_commit.proofs.Written.{put_widths}
+use Rattle.eval_commit.proofs.Belonging.{below_in, fetched, read_at, read_listed, roots_inside, spread_as, value_at}
 use Rattle.eval_commit.proofs.node.compute_read.Goals as goal
 
 pub bounds-rooms-m : goal.bounds-rooms-m

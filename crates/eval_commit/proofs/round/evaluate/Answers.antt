@@ -1,5 +1,5 @@
-use Rattle.std.proofs.Common.{◌≡◌, ℕ, List, length, take, refl, sym, ◌∙◌, ap, subst, arith}
-use Rattle.signal_words.specs.Values.{digits_in, numbers}
+use Rattle.std.proofs.Common.{◌≡◌, ℕ, length, take, refl, ◌∙◌, ap, subst, arith}
+use Rattle.signal_words.specs.Values.{numbers}
 use Rattle.circuit.specs.Valuation.{digit_at}
 use Rattle.driver_check.specs.declared.plan.Node.TheVariants as node
 use Rattle.eval_commit.specs.Computed.{steps_of}

@@ -1,4 +1,4 @@
-use Rattle.std.proofs.Common.{◌≡◌, List, sym, ap, subst, Some}
+use Rattle.std.proofs.Common.{◌≡◌, List, sym, subst, Some}
 use Rattle.std.specs.Prelude.{slice_get}
 use Rattle.sim_base.specs.BitValue.{BitValue}
 use Rattle.circuit.specs.declared.netlist.Drive.{Drive}

@@ -1,6 +1,5 @@
 use Rattle.std.proofs.Common.{◌≡◌, map, take}
 use Rattle.sim_base.specs.BitValue.{zeros}
-use Rattle.memory_cells.specs.Rows.{start_rows}
 use Rattle.eval_commit.specs.Round.{input_width}
 use Rattle.eval_commit.proofs.start.zero_inputs.Given as goal
 
