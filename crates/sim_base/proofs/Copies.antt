@@ -1,5 +1,5 @@
 -- Copies, word by word.
-use Rattle.std.proofs.Common.{◌≡◌, ℕ, ◌+◌, ◌-◌, ◌*◌, ◌/◌, ◌%◌, ◌^◌, ◌<◌, ◌≤◌, List, length, get_or, set, sym, ◌∙◌, ap, arith, inl, inr, bit_or, bit_and, w64, max, min, get_or-set_same, get_or-set_other}
+use Rattle.std.proofs.Common.{◌≡◌, ℕ, ◌+◌, ◌-◌, ◌*◌, ◌/◌, ◌%◌, ◌^◌, ◌<◌, ◌≤◌, List, length, get_or, set, sym, ◌∙◌, ap, subst, arith, inl, inr, bit_or, bit_and, w64, max, min, get_or-set_same, get_or-set_other}
 use Rattle.std.proofs.lemmas.Bool.{cases_lt, cases_eq}
 use Rattle.std.proofs.lemmas.Nat.{mod_below, pow_pos}
 use Rattle.std.proofs.lemmas.Nat.Bits.{bit_at_or, bit_at_and, bit_at_not, bit_at_above, bit_at_ones, bit_at_ones_above, bit_at-lt}
@@ -97,3 +97,23 @@ copied_word ws at n v word fit lt inside le one j =
             | inr b ↦ sym (copied_above at v 0 n (number_of_words ws) j (omega arith))
           ])
     ]
+
+-- a word in its place is a part of 64 digits
+pub placed_word : (ws : List ℕ) (place word : ℕ) → AreWords ws → word < 2 ^ 64 → place < length ws → (j : ℕ) → bit_at (number_of_words (set ws place word)) j ≡ digit_after_copy (64 * place) word 0 64 (number_of_words ws) j
+placed_word ws place word fit lt inside j =
+    let q : 64 * place / 64 ≡ place = omega arith in
+    let r : 64 * place % 64 ≡ 0 = omega arith in
+    let there : 64 * place / 64 < length ws = omega arith in
+    subst (λ k. bit_at (number_of_words (set ws k word)) j ≡ digit_after_copy (64 * place) word 0 64 (number_of_words ws) j) q
+    (copied_word ws (64 * place) 64 word word fit lt there (omega arith)
+    (λ i small.
+    let z : i ≡ 0 + (i - 64 * place % 64) = omega arith in
+    ap (bit_at word) z ∙ sym (copied_in (64 * place % 64) word 0 64 (get_or ws (64 * place / 64) 0) i (omega arith) (omega arith))) j)
+
+-- and one that fits keeps the number below
+pub placed_below : (w place word old new : ℕ) → word < 2 ^ (w - 64 * place) → old < 2 ^ w → ((j : ℕ) → bit_at new j ≡ digit_after_copy (64 * place) word 0 64 old j) → 64 * place < w → new < 2 ^ w
+placed_below w place word old new fits below bits inside =
+    below_from_bits w new (λ j h. bits j ∙ elim (cases_lt j (64 * place + 64)) [
+      | inl a ↦ copied_in (64 * place) word 0 64 old j (omega arith) a ∙ bit_at_above word (w - 64 * place) (0 + (j - 64 * place)) fits (omega arith)
+      | inr b ↦ copied_above (64 * place) word 0 64 old j b ∙ bit_at_above old w j below h
+    ])

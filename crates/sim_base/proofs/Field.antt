@@ -69,3 +69,9 @@ pub no_word : (ws : List ℕ) → length ws ≡ 0 → number_of_words ws ≡ 0
 unfolding number_of_words
 no_word [] e = refl
 no_word (x ∷ ws) e = absurd (omega arith)
+
+pub number_of_first : (ws : List ℕ) (x : ℕ) → length ws ≤ 1 → 0 < length ws → x ≡ get_or ws 0 0 → number_of_words ws ≡ x
+unfolding number_of_words
+number_of_first [] x le some e = absurd (omega arith)
+number_of_first (w ∷ []) x le some e = omega arith
+number_of_first (w ∷ y ∷ ws) x le some e = absurd (omega arith)

@@ -130,6 +130,40 @@ impl Bits {
         low_digits(joined(self.words[k], high, off), n)
     }
 
+    /// The number of a value of at most 64 bits.
+    #[inline(always)]
+    pub fn word(&self) -> u64
+        requires { self.now.width ≤ 64 }
+        ensures { result ≡ self.now.number }
+    {
+        match self.words.first() {
+            Some(word) => *word,
+            None => 0,
+        }
+    }
+
+    /// The number in words of 64 bits, the least first.
+    #[inline(always)]
+    pub fn words(&self) -> &[u64]
+        ensures number { number_of_words result.now ≡ self.now.number }
+        ensures length { length result.now ≡ (self.now.width + 63) / 64 }
+        ensures fit { AreWords result.now }
+    {
+        self.words.as_slice()
+    }
+
+    /// Makes `word` the one at this place of the words of 64 bits: the bits from `64 * place` on.
+    #[inline(always)]
+    pub fn put_word(&mut self, place: usize, word: u64)
+        requires inside { 64 * place < self.old.width }
+        requires below { word < 2 ^ (self.old.width - 64 * place) }
+        ensures width { self.new.width ≡ self.old.width }
+        ensures below { self.new.number < 2 ^ self.new.width }
+        ensures bits { (j : ℕ) → bit_at self.new.number j ≡ digit_after_copy (64 * place) word 0 64 self.old.number j }
+    {
+        self.words[place] = word;
+    }
+
     /// Makes `v` the number of a value of at most 64 bits.
     pub fn put(&mut self, v: u64)
         requires small { self.old.width ≤ 64 }
