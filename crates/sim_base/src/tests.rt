@@ -98,6 +98,20 @@ fn values_are_the_same_in_width_and_number(rt: HostRuntime) -> Result<(), Fail> 
 }
 
 #[test]
+fn words_are_read_and_put_in_their_places(rt: HostRuntime) -> Result<(), Fail> {
+    let mut bits = every_third(rt.alloc())?;
+    bits.put_word(1, 5);
+    bits.put_word(3, 0xA5);
+    let third = 0x2492_4924_9249_2492;
+    assert!(rt; bits.words() == [0x9249_2492_4924_9249, 5, third, 0xA5].as_slice());
+    let mut small = Bits::zero(rt.alloc(), 20)?;
+    small.put_word(0, 0xF_FFFE);
+    assert_eq!(rt; small.word(), 0xF_FFFE);
+    assert_eq!(rt; Bits::zero(rt.alloc(), 0)?.word(), 0);
+    Ok(())
+}
+
+#[test]
 fn hexadecimal_texts_are_read_where_the_width_holds_them(rt: HostRuntime) -> Result<(), Fail> {
     let cases: [(u32, &[u8], bool); 15] = [
         (0, b"0", true),
