@@ -12,8 +12,6 @@ mod netlist;
 mod register;
 mod shape;
 mod store;
-#[cfg(test)]
-mod tests;
 mod validity;
 mod values;
 mod worked;

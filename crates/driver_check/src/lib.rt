@@ -27,6 +27,3 @@ pub use ordering::order;
 pub use plan::{Node, Plan};
 pub use sources::Sources;
 pub use table::Table;
-
-#[cfg(test)]
-mod tests;

@@ -12,6 +12,3 @@ mod wires;
 pub use elaboration::elaborate;
 pub use flat_text::FlatFault;
 pub use laws::{flat_is_in_order, module_gives_flat};
-
-#[cfg(test)]
-mod tests;

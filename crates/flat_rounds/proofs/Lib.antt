@@ -5,5 +5,4 @@ mod Given
 mod Pass
 mod Clocked
 mod Settling
-mod FlatTest
-mod Samples
+pub mod FlatTest

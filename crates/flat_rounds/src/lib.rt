@@ -4,8 +4,6 @@
 mod clock;
 mod nets;
 mod rounds;
-#[cfg(test)]
-mod tests;
 mod word;
 
 pub use rounds::Rounds;

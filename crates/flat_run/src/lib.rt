@@ -3,7 +3,5 @@
 
 mod progress;
 mod run;
-#[cfg(test)]
-mod tests;
 
 pub use run::FlatRun;

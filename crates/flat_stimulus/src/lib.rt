@@ -9,6 +9,3 @@ mod words;
 pub use flat_text::FlatFault;
 pub use row::BlockRow;
 pub use stimulus::{FlatStimulus, read_stimulus};
-
-#[cfg(test)]
-mod tests;

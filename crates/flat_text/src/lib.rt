@@ -7,8 +7,6 @@ mod line;
 mod module;
 mod place;
 mod read;
-#[cfg(test)]
-mod tests;
 mod words;
 
 pub use fault::FlatFault;

@@ -16,6 +16,3 @@ pub use laws::{
     law_of_logs, law_of_progress, law_of_runs, law_of_steps,
 };
 pub use log::log_text;
-
-#[cfg(test)]
-mod tests;

@@ -3,7 +3,7 @@ mod HighDigits
 mod MaskedDigits
 mod RowAfter
 mod Told
-mod ReadAfter
+pub mod ReadAfter
 mod SetPart
 mod Renewed
 mod Fitting

@@ -7,8 +7,6 @@ mod laws;
 mod read;
 mod renew;
 mod rows;
-#[cfg(test)]
-mod tests;
 mod write;
 
 pub use clock::{clock_ports, read_port};

@@ -22,6 +22,3 @@ pub use shelves::Shelves;
 pub use sink::{Put, Sink, SinkFault, put_all};
 pub use source::{Got, Source};
 pub use streams::{StdErr, StdOut, Stream};
-
-#[cfg(test)]
-mod tests;

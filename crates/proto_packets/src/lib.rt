@@ -76,6 +76,3 @@ fn text<'v>(packet: &'v Value, key: &str) -> Option<&'v str>
 {
     packet.get(key).and_then(Value::as_str)
 }
-
-#[cfg(test)]
-mod tests;

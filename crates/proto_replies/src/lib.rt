@@ -8,6 +8,3 @@ mod text;
 pub use answer::{Answer, Cause, ErrorKind, RunState};
 pub use laws::law_of_json;
 pub use text::reply;
-
-#[cfg(test)]
-mod tests;

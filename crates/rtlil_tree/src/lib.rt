@@ -14,8 +14,6 @@ mod process;
 mod sig;
 mod signal;
 mod statement;
-#[cfg(test)]
-mod tests;
 
 pub use attribute::attribute_value;
 pub use file::parse;

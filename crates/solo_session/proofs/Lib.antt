@@ -7,7 +7,7 @@ mod Packeted
 mod Taking
 mod Going
 mod Rounds
-mod Paced
+pub mod Paced
 mod Finished
 mod Extending
 mod Endings

@@ -6,8 +6,6 @@ mod asked;
 mod laws;
 mod session;
 mod solo;
-#[cfg(test)]
-mod tests;
 
 pub use laws::{law_of_entries, law_of_isolation, law_of_pace};
 pub use session::Session;

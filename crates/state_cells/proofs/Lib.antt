@@ -5,4 +5,3 @@ pub mod Overlaid
 mod Chosen
 mod Edges
 pub mod Fitting
-pub mod StoresWritten

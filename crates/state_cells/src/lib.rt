@@ -7,8 +7,6 @@ mod parts;
 mod port;
 mod register;
 mod source;
-#[cfg(test)]
-mod tests;
 
 pub use diagnostic::fires;
 pub use laws::{law_of_firing, law_of_rounds};

@@ -1,0 +1,123 @@
+//! That `is_valid` and the widths and start values say what was meant. Each table adds one part to a
+//! circuit with one of everything: where the part fits the circuit stays valid, and where one thing of
+//! it is changed it does not.
+mod lists;
+mod parts;
+mod signals;
+mod whole;
+
+use circuit::{DesignKind, Store};
+use sim_base::{Bits, NoMemory};
+use std::alloc::Global;
+use std::process::Abort;
+use std::test::Fail;
+use whole::whole;
+
+/// The widths and numbers of values of at most 64 bits.
+fn numbers(alloc: Global, values: &[Bits]) -> Result<Vec<(u32, u64)>, NoMemory> {
+    let mut numbers = Vec::new(alloc);
+    for bits in values {
+        let width = bits.width();
+        numbers.push((width, bits.field(0, width.min(64))))?;
+    }
+    Ok(numbers)
+}
+
+fn check_store(rt: &impl Abort, alloc: Global, store: &Store) -> Result<(), Fail> {
+    let nets = [
+        (1, 0),
+        (8, 0),
+        (8, 0),
+        (9, 0),
+        (8, 0),
+        (16, 0),
+        (16, 0),
+        (8, 0),
+    ];
+    assert_eq!(rt;
+        numbers(alloc, store.nets.as_slice())?.as_slice(),
+        nets.as_slice()
+    );
+    let cells = [(9, 0), (8, 0)];
+    assert_eq!(rt;
+        numbers(alloc, store.cells.as_slice())?.as_slice(),
+        cells.as_slice()
+    );
+    let regs = [(8, 0x5A)];
+    assert_eq!(rt;
+        numbers(alloc, store.regs.as_slice())?.as_slice(),
+        regs.as_slice()
+    );
+    assert_eq!(rt; store.reads.len(), 1);
+    let reads = &store.reads.as_slice()[0];
+    let kept_and_shown = [(16, 0xA55A), (16, 0)];
+    assert_eq!(rt;
+        numbers(alloc, reads.as_slice())?.as_slice(),
+        kept_and_shown.as_slice()
+    );
+    Ok(())
+}
+
+#[test]
+fn a_circuit_with_one_of_everything_is_valid(rt: HostRuntime) -> Result<(), Fail> {
+    let alloc = rt.alloc();
+    let circuit = whole(alloc)?;
+    assert!(rt; circuit.validate());
+    let shape = circuit.shape(alloc)?;
+    assert_eq!(rt;
+        shape.widths(),
+        [1, 16, 16, 16, 16, 8, 8, 9, 1, 1].as_slice()
+    );
+    check_store(&rt, alloc, &Store::new(alloc, &circuit)?)
+}
+
+#[test]
+fn nets_signals_and_what_they_join_have_their_widths(rt: HostRuntime) -> Result<(), Fail> {
+    let alloc = rt.alloc();
+    signals::check_nets(&rt, alloc)?;
+    signals::check_drives(&rt, alloc)?;
+    signals::check_parts(&rt, alloc)?;
+    signals::check_pieces(&rt, alloc)?;
+    signals::check_cells(&rt, alloc)?;
+    signals::check_selections(&rt, alloc)?;
+    signals::check_registers(&rt, alloc)?;
+    signals::check_register_ports(&rt, alloc)?;
+    signals::check_memories(&rt, alloc)?;
+    signals::check_memory_ports(&rt, alloc)
+}
+
+#[test]
+fn lists_are_in_order_and_name_what_is_there(rt: HostRuntime) -> Result<(), Fail> {
+    let alloc = rt.alloc();
+    lists::check_items(&rt, alloc)?;
+    lists::check_slots(&rt, alloc)?;
+    lists::check_inputs(&rt, alloc)?;
+    lists::check_scopes(&rt, alloc)?;
+    lists::check_diagnostics(&rt, alloc)
+}
+
+#[test]
+fn faults_have_their_numbers_and_names(rt: HostRuntime) {
+    let rows: [(DesignKind, Option<u8>, &str); 16] = [
+        (DesignKind::NoTop, Some(10), "NoTop"),
+        (DesignKind::ManyTops, Some(11), "ManyTops"),
+        (DesignKind::UnknownName, Some(12), "UnknownName"),
+        (DesignKind::DuplicateName, Some(13), "DuplicateName"),
+        (DesignKind::UnknownCell, Some(14), "UnknownCell"),
+        (DesignKind::BadParameter, Some(15), "BadParameter"),
+        (DesignKind::Width, Some(16), "Width"),
+        (DesignKind::Inout, Some(17), "Inout"),
+        (DesignKind::TooWide, Some(18), "TooWide"),
+        (DesignKind::ArithTooWide, Some(19), "ArithTooWide"),
+        (DesignKind::RecursiveModules, Some(20), "RecursiveModules"),
+        (DesignKind::TooLarge, Some(21), "TooLarge"),
+        (DesignKind::ConstTarget, Some(22), "ConstTarget"),
+        (DesignKind::TwoDrivers, Some(23), "TwoDrivers"),
+        (DesignKind::CombLoop, Some(24), "CombLoop"),
+        (DesignKind::NoMemory, None, "NoMemory"),
+    ];
+    for (kind, number, name) in rows {
+        assert_eq!(rt; kind.number(), number, "{name}");
+        assert_eq!(rt; kind.name(), name);
+    }
+}

@@ -1,5 +1,0 @@
-use Rattle.flat_rounds.specs.Fits.{IsStandingOf}
-use Rattle.flat_rounds.proofs.tests.shown.Given as goal
-
-abbrev pub invariant-loop-row : goal.invariant-loop-row
-invariant-loop-row g l = IsStandingOf l.circuit l.rounds

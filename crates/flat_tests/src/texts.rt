@@ -1,0 +1,180 @@
+use flat_text::{Constant, FlatFault, Operand, Port, read_module};
+use std::test::Fail;
+
+const COUNTER: &[u8] = br#"autoidx 5
+attribute \top 1
+attribute \src "counter.v:1.1-7.10"
+module \counter
+  wire input 1 \clk
+  attribute \init 8'00000000
+  wire width 8 output 2 \q
+  wire width 8 $n
+  cell $add $a
+    parameter \A_SIGNED 0
+    parameter \A_WIDTH 8
+    parameter \B_SIGNED 0
+    parameter \B_WIDTH 1
+    parameter \Y_WIDTH 8
+    connect \A \q
+    connect \B 1'1
+    connect \Y $n
+  end
+  cell $dff $r
+    parameter \CLK_POLARITY 1'1
+    parameter \WIDTH 8
+    connect \CLK \clk
+    connect \D $n
+    connect \Q \q
+  end
+end
+"#;
+
+#[test]
+fn a_counter_is_read(rt: HostRuntime) -> Result<(), Fail> {
+    let module = read_module(rt.alloc(), COUNTER)?;
+    assert_eq!(rt; module.name.as_bytes(), br"\counter".as_slice());
+    let wires = module.wires.as_slice();
+    assert_eq!(rt; wires.len(), 3);
+    for (wire, (name, width, port, attributes)) in wires.iter().zip([
+        (br"\clk".as_slice(), 1, Port::Input, 0),
+        (br"\q".as_slice(), 8, Port::Output, 1),
+        (br"$n".as_slice(), 8, Port::Internal, 0),
+    ]) {
+        assert_eq!(rt; wire.name.as_bytes(), name);
+        assert_eq!(rt; wire.width, width);
+        assert!(rt; wire.port == port);
+        assert_eq!(rt; wire.attributes.len(), attributes);
+    }
+    let cells = module.cells.as_slice();
+    assert_eq!(rt; cells.len(), 2);
+    for (cell, (kind, name, parameters, connections)) in cells.iter().zip([
+        (br"$add".as_slice(), br"$a".as_slice(), 5, 3),
+        (br"$dff".as_slice(), br"$r".as_slice(), 2, 3),
+    ]) {
+        assert_eq!(rt; cell.kind.as_bytes(), kind);
+        assert_eq!(rt; cell.name.as_bytes(), name);
+        assert_eq!(rt; cell.parameters.len(), parameters);
+        assert_eq!(rt; cell.connections.len(), connections);
+    }
+    Ok(())
+}
+
+/// The number or the digits of a constant, with a width, and the length of a text.
+fn constant_is(constant: &Constant, width: u32, number: u64) -> bool {
+    match constant {
+        Constant::Number(found) => width == 0 && u64::from(*found) == number,
+        Constant::Digits(bits) => {
+            bits.width() == width && width <= 64 && bits.field(0, width) == number
+        }
+        Constant::Text(text) => width == 0 && text.len() as u64 == number,
+    }
+}
+
+#[test]
+fn values_are_read_as_written(rt: HostRuntime) -> Result<(), Fail> {
+    let text = br#"
+
+module $m
+   attribute \a 000000012
+   attribute \a 5'10011
+   attribute \a 0'
+   attribute \a ""
+   attribute \a "1'1"
+  wire width 0 $w
+
+  attribute $dropped 1
+  cell $k $c
+   connect \A 6'110000
+   connect \B $w
+  end
+    
+ end
+
+"#;
+    let module = read_module(rt.alloc(), text)?;
+    assert_eq!(rt; module.wires.len(), 1);
+    for wire in module.wires.as_slice() {
+        assert_eq!(rt; wire.width, 0);
+        for (attribute, (width, number)) in wire
+            .attributes
+            .as_slice()
+            .iter()
+            .zip([(0, 12), (5, 19), (0, 0), (0, 0), (0, 3)])
+        {
+            assert!(rt; constant_is(&attribute.value, width, number), "{number}");
+        }
+    }
+    for cell in module.cells.as_slice() {
+        for (connection, is_wire) in cell.connections.as_slice().iter().zip([false, true]) {
+            match &connection.to {
+                Operand::Wire(name) => {
+                    assert!(rt; is_wire);
+                    assert_eq!(rt; name.as_bytes(), br"$w".as_slice());
+                }
+                Operand::Digits(bits) => {
+                    assert!(rt; !is_wire);
+                    assert_eq!(rt; bits.width(), 6);
+                    assert!(rt; bits.bit(5) && bits.bit(4) && !bits.bit(3) && !bits.bit(0));
+                }
+            }
+        }
+    }
+    Ok(())
+}
+
+#[test]
+fn other_texts_are_refused(rt: HostRuntime) {
+    for text in [
+        br"".as_slice(),
+        b"\n",
+        b"module $m\nend",
+        b"module $m\n\tend\n",
+        b"module $m\nwire $\x7f\nend\n",
+        b"module $m\nwire $\x80\nend\n",
+        b"module  $m\nend\n",
+        b"module $m \nend\n",
+        b"module $m\nend \n",
+        b"module $m\n",
+        b"module $m\nend\nend\n",
+        b"module $m\nend\nmodule $n\nend\n",
+        b"module $m $n\nend\n",
+        b"module m\nend\n",
+        b"module $\nend\n",
+        b"module $m\nprocess $p\nend\nend\n",
+        b"module $m\nmemory width 1 size 2 $w\nend\n",
+        b"module $m\nconnect $a $b\nend\n",
+        b"module $m\nunknown\nend\n",
+        b"module $m\nautoidx 1\nend\n",
+        b"autoidx 1\nautoidx 1\nmodule $m\nend\n",
+        b"autoidx 1234567890\nmodule $m\nend\n",
+        b"autoidx\nmodule $m\nend\n",
+        b"module $m\nwire width $w\nend\n",
+        b"module $m\nwire width 8\nend\n",
+        b"module $m\nwire width 1234567890 $w\nend\n",
+        b"module $m\nwire input $w\nend\n",
+        b"module $m\nwire inout 1 $w\nend\n",
+        b"module $m\nwire input 1 output 2 $w\nend\n",
+        b"module $m\nattribute $a 1\nend\n",
+        b"module $m\nattribute $a\nwire $w\nend\n",
+        b"module $m\nattribute $a 2'1\nwire $w\nend\n",
+        b"module $m\nattribute $a 2'111\nwire $w\nend\n",
+        b"module $m\nattribute $a 2'12\nwire $w\nend\n",
+        b"module $m\nattribute $a 2'x1\nwire $w\nend\n",
+        b"module $m\nattribute $a '1\nwire $w\nend\n",
+        b"module $m\nattribute $a \"a\"b\"\nwire $w\nend\n",
+        b"module $m\nattribute $a \"a\\b\"\nwire $w\nend\n",
+        b"module $m\nattribute $a \"a b\"\nwire $w\nend\n",
+        b"module $m\nattribute $a \"\nwire $w\nend\n",
+        b"module $m\nattribute $a $b\nwire $w\nend\n",
+        b"module $m\ncell $k $c\nend\n",
+        b"module $m\ncell $k\nend\nend\n",
+        b"module $m\ncell $k $c\nattribute $a 1\nend\nend\n",
+        b"module $m\ncell $k $c\nconnect $p $w\nparameter $q 1\nend\nend\n",
+        b"module $m\ncell $k $c\nconnect $p 1\nend\nend\n",
+        b"module $m\ncell $k $c\nend\nattribute $a 1\nend\n",
+        b"module $m\ncell $k $c\nend\nwire $w\nend\n",
+    ] {
+        let refused = matches!(&read_module(rt.alloc(), text), Err(FlatFault::NotBuilt));
+        assert!(rt; refused, "{text:?}");
+    }
+}

@@ -1,5 +1,0 @@
-use Rattle.std.proofs.Common.{sym}
-use Rattle.memory_cells.proofs.tests.memories.shown.Goals as goal
-
-pub read_port-requires-clause-fits : goal.read_port-requires-clause-fits
-read_port-requires-clause-fits c = c.law_of_memories.ensures.memory c.args.circuit.now c.args.now.now c.args.now.now 0 c.in_ok-mem.mem.now c.requires.valid c.requires.now c.requires.now (sym c.in_ok-mem.ensures.value)
