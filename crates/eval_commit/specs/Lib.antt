@@ -2,3 +2,4 @@ pub mod Spread
 pub mod Held
 pub mod Computed
 pub mod Round
+pub mod Stored
