@@ -7,3 +7,5 @@ pub mod Rounding
 pub mod Valued
 pub mod Stepped
 pub mod Starting
+pub mod PortsOver
+pub mod PortsKept

@@ -2,6 +2,7 @@
 #![tactic(auto)]
 
 mod node;
+mod ports;
 mod put;
 mod round;
 mod start;

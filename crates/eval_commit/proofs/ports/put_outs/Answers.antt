@@ -1,0 +1,28 @@
+use Rattle.std.proofs.Common.{sym, ◌∙◌, ap, arith, length}
+use Rattle.driver_check.proofs.Places.{read}
+use Rattle.sim_base.specs.BitValue.{BitValue}
+use Rattle.eval_commit.proofs.PortsOver.{long_as, over_all, over_length, over_old, over_put, there_as}
+use Rattle.eval_commit.proofs.ports.put_outs.Goals as goal
+
+pub at-requires : goal.at-requires
+at-requires c =
+    let l = over_length c.args.outs.now c.args.into.now c.loop-n.n in
+    let e = ap (length {A = BitValue}) c.loop-n.invariant in
+    let w = long_as (λ (v : BitValue). v.width) (λ (v : BitValue). v.width) c.args.outs.now c.args.into.now c.requires in
+    omega (arith, c.loop-n-test.true, l, e, w)
+
+pub put_value-requires : goal.put_value-requires
+put_value-requires c =
+    let new = read c.args.outs.now c.loop-n.n c.index-outs-n.result c.loop-n-test.true c.index-outs-n.is in
+    let old = over_old c.args.outs.now c.args.into.now c.loop-n.into c.loop-n.n c.at.result.now c.loop-n.invariant c.at.ensures.value in
+    sym (there_as (λ (v : BitValue). v.width) (λ (v : BitValue). v.width) c.args.outs.now c.args.into.now c.loop-n.n c.index-outs-n.result c.at.result.now c.requires new old)
+
+pub loop-n-preserved : goal.loop-n-preserved
+loop-n-preserved c =
+    let new = read c.args.outs.now c.loop-n.n c.index-outs-n.result c.loop-n-test.true c.index-outs-n.is in
+    over_put c.args.outs.now c.args.into.now c.loop-n.into c.loop-n.n c.index-outs-n.result c.at.result.now c.put_value.new.into c.loop-n.invariant new c.at.ensures.value c.put_value.ensures.value
+
+pub returns : goal.returns
+returns c =
+    let w = long_as (λ (v : BitValue). v.width) (λ (v : BitValue). v.width) c.args.outs.now c.args.into.now c.requires in
+    c.loop-n.invariant ∙ over_all c.args.outs.now c.args.into.now c.loop-n.n w (omega (arith, c.loop-n-test.false))
