@@ -1,7 +1,10 @@
 -- The rows and the read ports of all memories.
 use Rattle.std.proofs.Common.{◌≡◌, ℕ, zero, suc, ◌+◌, ◌<◌, ◌≤◌, List, [], ◌∷◌, map, length, set, refl, sym, ◌∙◌, ap, subst, arith, inl, inr, Bool, true, false, not, ◌&&◌, ◌||◌, Some}
-use Rattle.std.specs.Prelude.{slice_get, slice_index, nat_eq}
+use Rattle.std.specs.Prelude.{◌*◌, ◌==◌, slice_get, slice_index, nat_eq, nat_le}
 use Rattle.std.specs.Cmp.Lexicographic.{pointwise}
+use Rattle.std.specs.List.{list_all}
+use Rattle.std.proofs.lemmas.Bool.{and_parts}
+use Rattle.std.proofs.lemmas.Bool.Decides.{nat_tests}
 use Rattle.std.proofs.lemmas.Option.{get_or_from_slice_get}
 use Rattle.std.proofs.lemmas.Slice.Eq.{bytes_eq-Decides}
 use Rattle.std.proofs.Math.Seq.{map-set_same}
@@ -10,6 +13,7 @@ use Rattle.circuit.specs.Next.{next_mems, next_stored}
 use Rattle.circuit.specs.Run.{start_stored}
 use Rattle.circuit.specs.Signal.{Digits}
 use Rattle.circuit.specs.State.{Stored, same_stored}
+use Rattle.circuit.specs.Valid.{address_width, is_countable, is_valid, mem_fits, read_fits, sig_of, widest}
 use Rattle.circuit.specs.declared.netlist.Circuit.{Circuit}
 use Rattle.circuit.specs.declared.memory.Mem.{Mem}
 use Rattle.circuit.specs.declared.memory.ReadPort.{ReadPort}
@@ -18,6 +22,7 @@ use Rattle.driver_check.proofs.Places.{found, same, was_set, within}
 use Rattle.memory_cells.specs.Ports.{stored}
 use Rattle.memory_cells.specs.Rows.{AreRowsOf, RowValues, start_rows}
 use Rattle.signal_words.specs.Values.{numbers, widths}
+use Rattle.signal_words.proofs.Fitting.{memory_of}
 use Rattle.eval_commit.specs.Computed.{AreAllRows}
 use Rattle.eval_commit.specs.Round.{Holds}
 use Rattle.eval_commit.specs.Stored.{kept_state, stored_all}
@@ -149,6 +154,37 @@ start_stored_is (m ∷ ms) =
     init_numbers : (ps : List ReadPort) → numbers (map (λ (p : ReadPort). p.init) ps) ≡ map (λ (p : ReadPort). p.init.number) ps
     init_numbers [] = refl
     init_numbers (p ∷ ps) = ap (λ ns. p.init.number ∷ ns) (init_numbers ps)
+
+init_widths : (c : Circuit) (m : Mem) (abits : ℕ) (ps : List ReadPort) → list_all (read_fits c m abits) ps ≡ true → widths (map (λ p. p.init) ps) ≡ map (λ _. m.width) ps
+init_widths c m abits [] e = refl
+init_widths c m abits (p ∷ ps) e =
+    let t = and_parts (read_fits c m abits p) (list_all (read_fits c m abits) ps) e in
+    let a = and_parts (sig_of c 1 p.clk) _ t.0 in
+    let b = and_parts (sig_of c 1 p.en) _ a.1 in
+    let d = and_parts (sig_of c abits p.addr) _ b.1 in
+    let s = and_parts (length p.see == length m.writes) (p.init.width == m.width) d.1 in
+    let i : p.init.width ≡ m.width = (let h = s.1 in grind (arith, nat_tests)) in
+    let u : widths (map (λ p. p.init) ps) ≡ map (λ _. m.width) ps = init_widths c m abits ps t.1 in
+    cc (i, u)
+
+mem_init_widths : (c : Circuit) (m : Mem) → mem_fits c m ≡ true → widths (map (λ p. p.init) m.reads) ≡ port_widths m
+mem_init_widths c m e =
+    let a = and_parts (nat_le m.width widest) _ e in
+    let b = and_parts (m.init.width == m.size * m.width) _ a.1 in
+    let d = and_parts (is_countable (length m.reads)) _ b.1 in
+    let r = and_parts (list_all (read_fits c m (address_width m.reads m.writes)) m.reads) _ d.1 in
+    init_widths c m (address_width m.reads m.writes) m.reads r.0
+
+-- the start values of the read ports have the widths of rows
+pub start_ports_wide : (c : Circuit) → is_valid c ≡ true → map widths (map (λ m. map (λ p. p.init) m.reads) c.mems) ≡ map (λ m. map (λ _. m.width) m.reads) c.mems
+start_ports_wide c valid = go c.mems (λ n m at. mem_init_widths c m (memory_of c n m valid at))
+  where
+    go : (ms : List Mem) → ((n : ℕ) (m : Mem) → slice_get ms n ≡ Some m → widths (map (λ p. p.init) m.reads) ≡ port_widths m) → map widths (map (λ m. map (λ p. p.init) m.reads) ms) ≡ map port_widths ms
+    go [] each = refl
+    go (m ∷ ms) each =
+        let i : widths (map (λ p. p.init) m.reads) ≡ port_widths m = each 0 m refl in
+        let u : map widths (map (λ m. map (λ p. p.init) m.reads) ms) ≡ map port_widths ms = go ms (λ n x at. each (suc n) x at) in
+        cc (i, u)
 
 -- a store with copies of the registers and of the read ports holds the state
 pub kept_holds : (c : Circuit) (regs : List BitValue) (rows : List RowValues) (ports : List (List BitValue)) (store : Store) → length rows ≡ length c.mems → length ports ≡ length c.mems
