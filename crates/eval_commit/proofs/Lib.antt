@@ -9,3 +9,4 @@ pub mod Stepped
 pub mod Starting
 pub mod PortsOver
 pub mod PortsKept
+pub mod RegsAfter

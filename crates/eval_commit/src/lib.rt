@@ -4,6 +4,7 @@
 mod node;
 mod ports;
 mod put;
+mod registers;
 mod round;
 mod start;
 #[cfg(test)]
