@@ -10,3 +10,5 @@ pub mod Starting
 pub mod PortsOver
 pub mod PortsKept
 pub mod RegsAfter
+pub mod Settling
+pub mod Standing

@@ -3,3 +3,4 @@ pub mod Held
 pub mod Computed
 pub mod Round
 pub mod Stored
+pub mod Rounds

@@ -1,4 +1,5 @@
-//! The values of a circuit's nets, computed in the order of a plan.
+//! The values of a circuit's nets, computed in the order of a plan, and a circuit that goes from sample
+//! to sample by them.
 #![tactic(auto)]
 
 mod node;
@@ -6,9 +7,12 @@ mod ports;
 mod put;
 mod registers;
 mod round;
+mod settle;
 mod start;
+mod step;
 #[cfg(test)]
 mod tests;
 
 pub use round::evaluate;
+pub use settle::Settled;
 pub use start::{law_of_first_state, rooms_of, start_rows, zero_inputs};

@@ -1,0 +1,160 @@
+-- One round more of a sample.
+use Rattle.std.proofs.Common.{◌≡◌, ℕ, suc, ◌+◌, ◌-◌, ◌*◌, ◌<◌, ◌≤◌, List, [], ◌∷◌, length, Bool, true, false, not, ◌&&◌, ◌||◌, Some, None, cond, refl, sym, ◌∙◌, ap, arith, add-one}
+use Rattle.std.specs.Prelude.{nat_eq}
+use Rattle.std.proofs.Math.Nat.{suc-mul}
+use Rattle.std.specs.Cmp.Lexicographic.{bytes_decides, pointwise}
+use Rattle.std.proofs.lemmas.Bool.{cond-true, cond-false, and_parts}
+use Rattle.circuit.specs.State.{State, Stored, same_stored, same_state}
+use Rattle.circuit.specs.Valuation.{valuation}
+use Rattle.circuit.specs.Next.{next}
+use Rattle.circuit.specs.Run.{rounds_within, settled_within}
+use Rattle.circuit.specs.declared.netlist.Circuit.{Circuit}
+
+-- ---- a state that is the same
+
+stored_same : (s t : Stored) → same_stored s t ≡ true → s ≡ t
+stored_same s t e =
+    let h = and_parts (pointwise nat_eq s.rows t.rows) (pointwise nat_eq s.reads t.reads) e in
+    ap (λ (rows : List ℕ). let k : Stored = record { rows = rows; reads = s.reads } in k) ((bytes_decides s.rows t.rows).0 h.0)
+    ∙ ap (λ (reads : List ℕ). let k : Stored = record { rows = t.rows; reads = reads } in k) ((bytes_decides s.reads t.reads).0 h.1)
+
+all_stored_same : (ss ts : List Stored) → pointwise same_stored ss ts ≡ true → ss ≡ ts
+all_stored_same [] [] e = refl
+all_stored_same [] (t ∷ ts) e = cc e
+all_stored_same (s ∷ ss) [] e = cc e
+all_stored_same (s ∷ ss) (t ∷ ts) e =
+    let h = and_parts (same_stored s t) (pointwise same_stored ss ts) e in
+    ap (λ x. x ∷ ss) (stored_same s t h.0) ∙ ap (λ xs. t ∷ xs) (all_stored_same ss ts h.1)
+
+state_same : (s t : State) → same_state s t ≡ true → s ≡ t
+state_same s t e =
+    let h = and_parts (pointwise nat_eq s.regs t.regs) (pointwise same_stored s.mems t.mems) e in
+    ap (λ (regs : List ℕ). let k : State = record { regs = regs; mems = s.mems } in k) ((bytes_decides s.regs t.regs).0 h.0)
+    ∙ ap (λ (mems : List Stored). let k : State = record { regs = t.regs; mems = mems } in k) (all_stored_same s.mems t.mems h.1)
+
+-- the registers changed, or the memories
+pub either_changed : (regs mems : Bool) → (not regs || not mems) ≡ not (regs && mems)
+either_changed true true = refl
+either_changed true false = refl
+either_changed false true = refl
+either_changed false false = refl
+
+-- ---- the definitions, one round unfolded
+
+settled_step : (r : ℕ) (c : Circuit) (state : State) (before inputs : List ℕ) → settled_within (suc r) c state before inputs
+    ≡ cond (same_state (next c state before (valuation c state inputs)) state) (Some (record { state = state; nets = valuation c state inputs })) (settled_within r c (next c state before (valuation c state inputs)) (valuation c state inputs) inputs)
+unfolding settled_within
+settled_step r c state before inputs = refl
+
+pub settled_never : (c : Circuit) (state : State) (before inputs : List ℕ) → settled_within 0 c state before inputs ≡ None
+unfolding settled_within
+settled_never c state before inputs = refl
+
+rounds_step : (r : ℕ) (c : Circuit) (state : State) (before inputs : List ℕ) → length (rounds_within (suc r) c state before inputs)
+    ≡ suc (length (cond (same_state (next c state before (valuation c state inputs)) state) [] (rounds_within r c (next c state before (valuation c state inputs)) (valuation c state inputs) inputs)))
+unfolding rounds_within
+rounds_step r c state before inputs = refl
+
+pub no_rounds : (c : Circuit) (state : State) (before inputs : List ℕ) → length (rounds_within 0 c state before inputs) ≡ 0
+unfolding rounds_within
+no_rounds c state before inputs = refl
+
+-- ---- a round from one state to the next
+
+module _ (c : Circuit) (from to : State) (before now inputs : List ℕ) (nets : now ≡ valuation c from inputs) (state : to ≡ next c from before now) where
+  after_is : next c from before (valuation c from inputs) ≡ to
+  after_is = ap (next c from before) (sym nets) ∙ sym state
+
+  pub settles : (r : ℕ) → same_state to from ≡ true → settled_within (suc r) c from before inputs ≡ Some (record { state = to; nets = now })
+  settles r still =
+      settled_step r c from before inputs
+      ∙ cond-true (same_state (next c from before (valuation c from inputs)) from) (Some (record { state = from; nets = valuation c from inputs })) (settled_within r c (next c from before (valuation c from inputs)) (valuation c from inputs) inputs)
+      (ap (λ s. same_state s from) after_is ∙ still)
+      ∙ ap (λ ns. Some (record { state = from; nets = ns })) (sym nets)
+      ∙ ap (λ s. Some (record { state = s; nets = now })) (sym (state_same to from still))
+
+  pub goes_on : (r : ℕ) → same_state to from ≡ false → settled_within (suc r) c from before inputs ≡ settled_within r c to now inputs
+  goes_on r other =
+      settled_step r c from before inputs
+      ∙ cond-false (same_state (next c from before (valuation c from inputs)) from) (Some (record { state = from; nets = valuation c from inputs })) (settled_within r c (next c from before (valuation c from inputs)) (valuation c from inputs) inputs)
+      (ap (λ s. same_state s from) after_is ∙ other)
+      ∙ ap (λ s. settled_within r c s (valuation c from inputs) inputs) after_is
+      ∙ ap (λ ns. settled_within r c to ns inputs) (sym nets)
+
+  pub last_round : (r : ℕ) → same_state to from ≡ true → length (rounds_within (suc r) c from before inputs) ≡ 1
+  last_round r still =
+      rounds_step r c from before inputs
+      ∙ ap (λ rs. suc (length rs)) (cond-true (same_state (next c from before (valuation c from inputs)) from) [] (rounds_within r c (next c from before (valuation c from inputs)) (valuation c from inputs) inputs)
+      (ap (λ s. same_state s from) after_is ∙ still))
+
+  pub one_round_more : (r : ℕ) → same_state to from ≡ false → length (rounds_within (suc r) c from before inputs) ≡ suc (length (rounds_within r c to now inputs))
+  one_round_more r other =
+      rounds_step r c from before inputs
+      ∙ ap (λ rs. suc (length rs)) (cond-false (same_state (next c from before (valuation c from inputs)) from) [] (rounds_within r c (next c from before (valuation c from inputs)) (valuation c from inputs) inputs)
+      (ap (λ s. same_state s from) after_is ∙ other))
+      ∙ ap (λ s. suc (length (rounds_within r c s (valuation c from inputs) inputs))) after_is
+      ∙ ap (λ ns. suc (length (rounds_within r c to ns inputs))) (sym nets)
+
+-- ---- so many rounds of a sample are done, and this is left of it
+
+pub record IsLeft (c : Circuit) (inputs : List ℕ) (first : State) (nets : List ℕ) (done : ℕ) (state : State) (before : List ℕ) : Type 0 where
+  pub rest : settled_within (256 - done) c state before inputs ≡ settled_within 256 c first nets inputs
+  pub counted : done + length (rounds_within (256 - done) c state before inputs) ≡ length (rounds_within 256 c first nets inputs)
+
+pub all_left : (c : Circuit) (inputs : List ℕ) (first : State) (nets : List ℕ) → IsLeft c inputs first nets 0 first nets
+all_left c inputs first nets = record { rest = refl; counted = omega arith }
+
+module _ (c : Circuit) (inputs : List ℕ) (first : State) (nets : List ℕ) (done : ℕ) (from : State) (before : List ℕ) (is : IsLeft c inputs first nets done from before) where
+  opened : done < 256 → 256 - done ≡ suc (256 - (done + 1))
+  opened lt = omega arith
+
+  rest_as : (lt : done < 256) → settled_within (suc (256 - (done + 1))) c from before inputs ≡ settled_within 256 c first nets inputs
+  rest_as lt = ap (λ n. settled_within n c from before inputs) (sym (opened lt)) ∙ is.rest
+
+  counted_as : (lt : done < 256) → done + length (rounds_within (suc (256 - (done + 1))) c from before inputs) ≡ length (rounds_within 256 c first nets inputs)
+  counted_as lt = ap (λ n. done + length (rounds_within n c from before inputs)) (sym (opened lt)) ∙ is.counted
+
+  module _ (to : State) (now : List ℕ) (lt : done < 256) (value : now ≡ valuation c from inputs) (state : to ≡ next c from before now) where
+    pub one_less : same_state to from ≡ false → IsLeft c inputs first nets (done + 1) to now
+    one_less other =
+        let many = one_round_more c from to before now inputs value state (256 - (done + 1)) other in
+        let all = counted_as lt in
+        record {
+          rest = sym (goes_on c from to before now inputs value state (256 - (done + 1)) other) ∙ rest_as lt;
+          counted = omega (arith, many, all);
+        }
+
+    pub has_settled : same_state to from ≡ true → settled_within 256 c first nets inputs ≡ Some (record { state = to; nets = now })
+    has_settled still = sym (rest_as lt) ∙ settles c from to before now inputs value state (256 - (done + 1)) still
+
+    pub settled_in : same_state to from ≡ true → done + 1 ≡ length (rounds_within 256 c first nets inputs)
+    settled_in still =
+        let one = last_round c from to before now inputs value state (256 - (done + 1)) still in
+        let all = counted_as lt in
+        omega (arith, one, all)
+
+  none_opened : 256 ≤ done → 256 - done ≡ 0
+  none_opened le = omega arith
+
+  pub has_not_settled : 256 ≤ done → settled_within 256 c first nets inputs ≡ None
+  has_not_settled le = sym is.rest ∙ ap (λ n. settled_within n c from before inputs) (none_opened le) ∙ settled_never c from before inputs
+
+  pub all_done : 256 ≤ done → done ≡ length (rounds_within 256 c first nets inputs)
+  all_done le =
+      let none = ap (λ n. length (rounds_within n c from before inputs)) (none_opened le) ∙ no_rounds c from before inputs in
+      omega (arith, none, is.counted)
+
+-- so many steps in each of so many rounds
+pub stepped_more : (start done each was now : ℕ) → was ≡ start + done * each → now ≡ was + each → now ≡ start + (done + 1) * each
+stepped_more start done each was now before more =
+    let e : (done + 1) * each ≡ done * each + each = ap (λ n. n * each) (add-one done) ∙ suc-mul done each in
+    omega (arith, e, before, more)
+
+-- what a round tells
+pub told_unchanged : (b : Bool) → false ≡ not b → b ≡ true
+told_unchanged true e = refl
+told_unchanged false e = cc e
+
+pub told_changed : (b : Bool) → true ≡ not b → b ≡ false
+told_changed true e = cc e
+told_changed false e = refl

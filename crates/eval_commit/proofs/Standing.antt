@@ -1,0 +1,112 @@
+-- What a machine keeps, and what stands before the first sample.
+use Rattle.std.proofs.Common.{◌≡◌, ℕ, zero, suc, ◌*◌, ◌≤◌, List, [], ◌∷◌, map, length, refl, sym, ◌∙◌, ap, subst, arith, Some, true}
+use Rattle.std.specs.Prelude.{◌==◌, nat_le, slice_get, slice_index}
+use Rattle.std.specs.List.{list_all}
+use Rattle.std.proofs.lemmas.Bool.{and_parts}
+use Rattle.std.proofs.lemmas.Bool.Decides.{nat_tests}
+use Rattle.std.proofs.lemmas.List.{length-map}
+use Rattle.sim_base.specs.BitValue.{BitValue, zeros}
+use Rattle.circuit.specs.Run.{Standing, row_in, start, start_state}
+use Rattle.circuit.specs.State.{State, Stored}
+use Rattle.circuit.specs.Store.{start_store}
+use Rattle.circuit.specs.Valuation.{valuation}
+use Rattle.circuit.specs.Valid.{address_width, is_countable, mem_fits, read_fits, sig_of, widest}
+use Rattle.circuit.specs.declared.netlist.Circuit.{Circuit}
+use Rattle.circuit.specs.declared.memory.Mem.{Mem}
+use Rattle.circuit.specs.declared.memory.ReadPort.{ReadPort}
+use Rattle.circuit.specs.declared.register.Reg.{Reg}
+use Rattle.circuit.specs.declared.store.Store.{Store}
+use Rattle.driver_check.specs.declared.plan.Plan.{Plan}
+use Rattle.memory_cells.specs.Rows.{RowValues, start_rows}
+use Rattle.signal_words.specs.Stores.{IsStoreOf}
+use Rattle.signal_words.specs.Values.{numbers, widths}
+use Rattle.eval_commit.specs.Computed.{AreAllRows}
+use Rattle.eval_commit.specs.Round.{IsBlank, input_width}
+use Rattle.eval_commit.specs.Rounds.{ArePortsOf, AreRoundsOf, standing_of, state_of}
+use Rattle.eval_commit.specs.Stored.{kept_state, stored_all}
+use Rattle.eval_commit.specs.declared.step.Rounds.{Rounds}
+use Rattle.eval_commit.proofs.PortsKept.{start_stored_is}
+use Rattle.eval_commit.proofs.Starting.{first_holds}
+
+pub ports_long : (c : Circuit) (ports : List (List BitValue)) → ArePortsOf c ports → length ports ≡ length c.mems
+ports_long c ports e = sym (length-map ports widths) ∙ ap length e ∙ length-map c.mems (λ (m : Mem). map (λ _. m.width) m.reads)
+
+-- a row of a memory
+pub row_kept : (rows : List RowValues) (ports : List (List BitValue)) (n : ℕ) (r : RowValues) (i : ℕ) → length rows ≤ length ports → slice_get rows n ≡ Some r → row_in (slice_get (stored_all rows ports) n) i ≡ slice_index r.rows i
+unfolding stored_all
+row_kept [] ports n r i le at = cc at
+row_kept (x ∷ xs) [] n r i le at = absurd (omega arith)
+row_kept (x ∷ xs) (o ∷ os) zero r i le at = let e : x ≡ r = cc at in ap (λ (y : RowValues). slice_index y.rows i) e
+row_kept (x ∷ xs) (o ∷ os) (suc n) r i le at = row_kept xs os n r i (omega (arith, le)) at
+
+-- ---- before the first sample
+
+pub zero_numbers : (f : ℕ → ℕ) (nets : List ℕ) → numbers (map (λ net. zeros (f net)) nets) ≡ map (λ _. 0) nets
+zero_numbers f [] = refl
+zero_numbers f (n ∷ ns) = ap (λ xs. 0 ∷ xs) (zero_numbers f ns)
+
+equal_from : (m n : ℕ) → (m == n) ≡ true → m ≡ n
+equal_from m n e = grind (arith, nat_tests)
+
+inits_wide : (c : Circuit) (m : Mem) (abits : ℕ) (ps : List ReadPort) → list_all (read_fits c m abits) ps ≡ true → widths (map (λ (p : ReadPort). p.init) ps) ≡ map (λ _. m.width) ps
+inits_wide c m abits [] e = refl
+inits_wide c m abits (p ∷ ps) e =
+    let t = and_parts (read_fits c m abits p) (list_all (read_fits c m abits) ps) e in
+    let a = and_parts (sig_of c 1 p.clk) _ t.0 in
+    let b = and_parts (sig_of c 1 p.en) _ a.1 in
+    let d = and_parts (sig_of c abits p.addr) _ b.1 in
+    let s = and_parts (length p.see == length m.writes) (p.init.width == m.width) d.1 in
+    ap (λ (w : ℕ). w ∷ widths (map (λ (q : ReadPort). q.init) ps)) (equal_from p.init.width m.width s.1) ∙ ap (λ (ws : List ℕ). m.width ∷ ws) (inits_wide c m abits ps t.1)
+
+mem_inits_wide : (c : Circuit) (m : Mem) → mem_fits c m ≡ true → widths (map (λ (p : ReadPort). p.init) m.reads) ≡ map (λ _. m.width) m.reads
+mem_inits_wide c m e =
+    let a = and_parts (nat_le m.width widest) _ e in
+    let b = and_parts (m.init.width == m.size * m.width) _ a.1 in
+    let d = and_parts (is_countable (length m.reads)) _ b.1 in
+    let r = and_parts (list_all (read_fits c m (address_width m.reads m.writes)) m.reads) _ d.1 in
+    inits_wide c m (address_width m.reads m.writes) m.reads r.0
+
+start_ports_wide : (c : Circuit) (ms : List Mem) → ((n : ℕ) (m : Mem) → slice_get ms n ≡ Some m → mem_fits c m ≡ true)
+    → map widths (map (λ (m : Mem). map (λ (p : ReadPort). p.init) m.reads) ms) ≡ map (λ (m : Mem). map (λ _. m.width) m.reads) ms
+start_ports_wide c [] fit = refl
+start_ports_wide c (m ∷ ms) fit =
+    ap (λ ws. ws ∷ map widths (map (λ (x : Mem). map (λ (p : ReadPort). p.init) x.reads) ms)) (mem_inits_wide c m (fit 0 m refl))
+    ∙ ap (λ wss. map (λ _. m.width) m.reads ∷ wss) (start_ports_wide c ms (λ n x at. fit (suc n) x at))
+
+-- the registers, rows and read ports have their start values, and both stores are those of the start
+pub record AreFirst (c : Circuit) (r : Rounds) : Type 0 where
+  pub regs : r.regs ≡ map (λ x. x.init) c.regs
+  pub rows : r.rows ≡ map start_rows c.mems
+  pub ports : r.ports ≡ map (λ m. map (λ p. p.init) m.reads) c.mems
+  pub before : r.before ≡ start_store c
+  pub now : r.now ≡ start_store c
+  pub rooms : widths r.rooms.items ≡ map (λ m. m.width) c.mems
+
+pub first_rounds : (c : Circuit) (plan : Plan) (r : Rounds) → AreFirst c r → IsStoreOf c (start_store c) → AreAllRows c (map start_rows c.mems) → IsBlank plan.roots (start_store c).nets
+    → ((n : ℕ) (m : Mem) → slice_get c.mems n ≡ Some m → mem_fits c m ≡ true) → AreRoundsOf c plan r
+first_rounds c plan r is of sized blank fit = record {
+  regs = ap widths is.regs ∙ of.regs;
+  rows = subst (AreAllRows c) (sym is.rows) sized;
+  ports = ap (map widths) is.ports ∙ start_ports_wide c c.mems fit;
+  before = subst (IsStoreOf c) (sym is.before) of;
+  before_blank = subst (λ (s : Store). IsBlank plan.roots s.nets) (sym is.before) blank;
+  now = subst (IsStoreOf c) (sym is.now) of;
+  now_blank = subst (λ (s : Store). IsBlank plan.roots s.nets) (sym is.now) blank;
+  rooms = is.rooms;
+}
+
+pub first_state : (c : Circuit) (r : Rounds) → AreFirst c r → state_of r ≡ start_state c
+first_state c r is =
+    ap (λ (vs : List BitValue). kept_state vs r.rows r.ports) is.regs
+    ∙ ap (λ (rs : List RowValues). kept_state (map (λ (x : Reg). x.init) c.regs) rs r.ports) is.rows
+    ∙ ap (λ (os : List (List BitValue)). kept_state (map (λ (x : Reg). x.init) c.regs) (map start_rows c.mems) os) is.ports
+    ∙ ap (λ (ns : List ℕ). let s : State = record { regs = ns; mems = stored_all (map start_rows c.mems) (map (λ (m : Mem). map (λ (p : ReadPort). p.init) m.reads) c.mems) } in s) (sym (first_holds c).regs)
+    ∙ ap (λ (ks : List Stored). let s : State = record { regs = (start_state c).regs; mems = ks } in s) (start_stored_is c.mems)
+
+pub start_is : (c : Circuit) (r : Rounds) (first : State) (inputs : List BitValue) → state_of r ≡ first → first ≡ start_state c → numbers r.before.nets ≡ valuation c first (numbers inputs)
+    → inputs ≡ map (λ net. zeros (input_width c net)) c.inputs → standing_of r ≡ start c
+start_is c r first inputs kept is nets zero_inputs =
+    let zero_list : numbers inputs ≡ map (λ _. 0) c.inputs = ap numbers zero_inputs ∙ zero_numbers (input_width c) c.inputs in
+    ap (λ (s : State). let t : Standing = record { state = s; nets = numbers r.before.nets } in t) (kept ∙ is)
+    ∙ ap (λ (ns : List ℕ). let t : Standing = record { state = start_state c; nets = ns } in t)
+    (nets ∙ ap (λ (s : State). valuation c s (numbers inputs)) is ∙ ap (valuation c (start_state c)) zero_list)

@@ -1,0 +1,32 @@
+use Rattle.eval_commit.specs.declared.step.Rounds.{Rounds}
+use Rattle.eval_commit.proofs.Standing.{AreFirst, first_rounds, first_state}
+use Rattle.eval_commit.proofs.step.Rounds.new.Goals as goal
+
+-- what is made
+abbrev made : goal.In_ok-rooms_of → Rounds
+made c = record {
+  regs = c.in_ok-start_regs.field-0;
+  rows = c.in_ok-start_rows.field-0;
+  ports = c.in_ok-start_ports.field-0;
+  before = c.in_ok-new.field-0;
+  now = c.in_ok-new-2.field-0;
+  rooms = c.in_ok-rooms_of.field-0;
+}
+
+first : (c : goal.In_ok-rooms_of) → AreFirst c.args.circuit.now (made c)
+first c = record {
+  regs = c.in_ok-start_regs.ensures;
+  rows = c.in_ok-start_rows.ensures;
+  ports = c.in_ok-start_ports.ensures;
+  before = c.in_ok-new.ensures;
+  now = c.in_ok-new-2.ensures;
+  rooms = c.in_ok-rooms_of.ensures;
+}
+
+pub returns-clause-rounds : goal.returns-clause-rounds
+returns-clause-rounds c plan =
+    first_rounds c.args.circuit.now plan (made c) (first c) (c.law_of_start.ensures c.args.circuit.now c.requires) (c.law_of_first_state.ensures.rows c.args.circuit.now)
+    (c.law_of_first_state.ensures.blank c.args.circuit.now plan.roots) (λ n m at. c.law_of_stores.ensures.memory c.args.circuit.now n m c.requires at)
+
+pub returns-clause-state : goal.returns-clause-state
+returns-clause-state c = first_state c.args.circuit.now (made c) (first c)

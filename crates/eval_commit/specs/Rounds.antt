@@ -1,0 +1,48 @@
+-- A circuit whose rounds are done over stores.
+use Rattle.std.specs.Prelude.{◌≡◌, List, map, true}
+use Rattle.circuit.specs.Free.{IsInOrder}
+use Rattle.circuit.specs.Run.{Standing}
+use Rattle.circuit.specs.State.{State}
+use Rattle.circuit.specs.Valid.{is_valid}
+use Rattle.circuit.specs.declared.netlist.Circuit.{Circuit}
+use Rattle.driver_check.specs.Ordered.{IsOrdered}
+use Rattle.driver_check.specs.Roots.{AreRoots}
+use Rattle.driver_check.specs.Sources.{AreSources}
+use Rattle.driver_check.specs.declared.plan.Plan.{Plan}
+use Rattle.sim_base.specs.BitValue.{BitValue}
+use Rattle.signal_words.specs.Stores.{IsStoreOf}
+use Rattle.signal_words.specs.Values.{numbers, widths}
+use Rattle.eval_commit.specs.Computed.{AreAllRows}
+use Rattle.eval_commit.specs.Round.{IsBlank}
+use Rattle.eval_commit.specs.Stored.{kept_state}
+use Rattle.eval_commit.specs.declared.step.Rounds.{Rounds}
+
+-- a plan of a valid circuit
+pub record IsPlanOf (c : Circuit) (plan : Plan) : Type 0 where
+  pub valid : is_valid c ≡ true
+  pub order : IsInOrder c
+  pub nodes : IsOrdered c plan.nodes
+  pub roots : AreRoots c plan.roots
+  pub sources : AreSources c plan.roots plan.sources
+
+-- a value for each read port, of the width of a row
+abbrev pub ArePortsOf : Circuit → List (List BitValue) → Type 0
+ArePortsOf c ports = map widths ports ≡ map (λ m. map (λ _. m.width) m.reads) c.mems
+
+-- each value has the width of what it is the value of, and each bit of a net that no root covers is 0
+pub record AreRoundsOf (c : Circuit) (plan : Plan) (r : Rounds) : Type 0 where
+  pub regs : widths r.regs ≡ map (λ x. x.width) c.regs
+  pub rows : AreAllRows c r.rows
+  pub ports : ArePortsOf c r.ports
+  pub before : IsStoreOf c r.before
+  pub before_blank : IsBlank plan.roots r.before.nets
+  pub now : IsStoreOf c r.now
+  pub now_blank : IsBlank plan.roots r.now.nets
+  pub rooms : widths r.rooms.items ≡ map (λ m. m.width) c.mems
+
+abbrev pub state_of : Rounds → State
+state_of r = kept_state r.regs r.rows r.ports
+
+-- the state, and the number of each net in the round before
+abbrev pub standing_of : Rounds → Standing
+standing_of r = record { state = state_of r; nets = numbers r.before.nets }

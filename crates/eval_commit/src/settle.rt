@@ -1,0 +1,51 @@
+//! The rounds of a sample.
+ghost use Rattle.std.specs.Prelude.{◌≡◌, ℕ, ◌+◌, ◌*◌, Some, None, length};
+ghost use Rattle.circuit.specs.Run.{rounds_from, settled};
+ghost use Rattle.signal_words.specs.Values.{numbers};
+ghost use Rattle.eval_commit.specs.Round.{AreInputsOf};
+ghost use Rattle.eval_commit.specs.Rounds.{AreRoundsOf, IsPlanOf, standing_of};
+ghost use Rattle.eval_commit.specs.declared.settle.Settled.TheVariants as settled_as;
+
+use crate::step::Rounds;
+use circuit::Circuit;
+use driver_check::Plan;
+use sim_base::{Bits, Steps};
+use std::sync::ledger::Ledger;
+
+/// The most rounds of a sample.
+const MOST_ROUNDS: u32 = 256;
+
+/// Whether a sample settled.
+#[derive(Clone, Copy, Debug, PartialEq, Eq)]
+pub enum Settled {
+    /// In so many rounds, the last of which changed nothing.
+    Yes(u32),
+    No,
+}
+
+impl Rounds {
+    /// Does rounds until one changes nothing, at most 256.
+    pub(crate) fn settle<L: Ledger>(
+        &mut self,
+        circuit: &Circuit,
+        plan: &Plan,
+        inputs: &[Bits],
+        steps: &mut Steps<L>,
+    ) -> Settled
+        requires plan { IsPlanOf circuit.now plan.now }
+        requires rounds { AreRoundsOf circuit.now plan.now self.old }
+        requires inputs { AreInputsOf circuit.now inputs.now }
+        ensures rounds { AreRoundsOf circuit.now plan.now self.new }
+        ensures yes { (n : ℕ) → result ≡ settled_as.Yes n → settled circuit.now (standing_of self.old) (numbers inputs.now) ≡ Some (standing_of self.new) }
+        ensures count { (n : ℕ) → result ≡ settled_as.Yes n → n ≡ length (rounds_from circuit.now (Some (standing_of self.old)) (numbers inputs.now)) }
+        ensures no { result ≡ settled_as.No → settled circuit.now (standing_of self.old) (numbers inputs.now) ≡ None }
+        ensures steps { steps.new ≡ steps.old + length (rounds_from circuit.now (Some (standing_of self.old)) (numbers inputs.now)) * length circuit.now.cells }
+    {
+        for done in 0..MOST_ROUNDS {
+            if !self.round(circuit, plan, inputs, steps) {
+                return Settled::Yes(done + 1);
+            }
+        }
+        Settled::No
+    }
+}

@@ -1,0 +1,173 @@
+//! One round of a circuit.
+ghost use Rattle.std.specs.Prelude.{◌≡◌, ◌+◌, ◌<◌, IfOk, not, length, true};
+ghost use Rattle.circuit.specs.Next.{next};
+ghost use Rattle.circuit.specs.Run.{start, start_state};
+ghost use Rattle.circuit.specs.State.{same_state};
+ghost use Rattle.circuit.specs.Valid.{is_valid};
+ghost use Rattle.circuit.specs.Valuation.{valuation};
+ghost use Rattle.driver_check.specs.declared.plan.Plan.{Plan as ThePlan};
+ghost use Rattle.signal_words.specs.Values.{numbers};
+ghost use Rattle.eval_commit.specs.Round.{AreInputsOf};
+ghost use Rattle.eval_commit.specs.Rounds.{AreRoundsOf, IsPlanOf, standing_of, state_of};
+
+use crate::ports::{Ports, next_mems, put_reads, start_ports};
+use crate::registers::{next_regs, put_regs, start_regs};
+use crate::round::evaluate;
+use crate::start::{law_of_first_state, rooms_of, start_rows, zero_inputs};
+use circuit::{Circuit, Store, Values};
+use driver_check::Plan;
+use memory_cells::Rows;
+use signal_words::{law_of_start, law_of_stores};
+use sim_base::{Bits, NoMemory, Steps};
+use std::alloc::Global;
+use std::marker::Brand;
+use std::mem;
+use std::sync::ledger::{Blank, Ledger};
+
+/// The state of a circuit, the values of its nets in the round before, and room for those of the next.
+#[derive(Debug, Drop)]
+pub(crate) struct Rounds {
+    pub(crate) regs: Values<Bits>,
+    pub(crate) rows: Values<Rows>,
+    /// For each memory the value of each of its read ports. One without a clock keeps its start value.
+    pub(crate) ports: Values<Ports>,
+    pub(crate) before: Store,
+    pub(crate) now: Store,
+    /// For each memory room for one of its rows.
+    pub(crate) rooms: Vec<Bits>,
+}
+
+impl Rounds {
+    /// The state before the first sample, and nets that are all 0.
+    fn new(alloc: Global, circuit: &Circuit) -> Result<Rounds, NoMemory>
+        requires { is_valid circuit.now ≡ true }
+        ensures rounds { IfOk result (λ r. (plan : ThePlan) → AreRoundsOf circuit.now plan r) }
+        ensures state { IfOk result (λ r. state_of r ≡ start_state circuit.now) }
+    {
+        law_of_start();
+        law_of_stores();
+        law_of_first_state();
+        Ok(Rounds {
+            regs: start_regs(alloc, circuit)?,
+            rows: start_rows(alloc, circuit)?,
+            ports: start_ports(alloc, circuit)?,
+            before: Store::new(alloc, circuit)?,
+            now: Store::new(alloc, circuit)?,
+            rooms: rooms_of(alloc, circuit)?,
+        })
+    }
+
+    /// What stands before the first sample: the start state, and the nets under inputs that are all 0.
+    pub(crate) fn start(alloc: Global, circuit: &Circuit, plan: &Plan) -> Result<Rounds, NoMemory>
+        requires { IsPlanOf circuit.now plan.now }
+        ensures rounds { IfOk result (λ r. AreRoundsOf circuit.now plan.now r) }
+        ensures standing { IfOk result (λ r. standing_of r ≡ start circuit.now) }
+    {
+        law_of_first_state();
+        let mut rounds = Rounds::new(alloc, circuit)?;
+        let inputs = zero_inputs(alloc, circuit)?;
+        rounds.first_nets::<Brand>(circuit, plan, inputs.as_slice(), Blank::new(1));
+        Ok(rounds)
+    }
+
+    /// Gives the nets of the round before their values under the state and these inputs.
+    fn first_nets<L: Ledger>(
+        &mut self,
+        circuit: &Circuit,
+        plan: &Plan,
+        inputs: &[Bits],
+        blank: Blank,
+    )
+        requires plan { IsPlanOf circuit.now plan.now }
+        requires rounds { AreRoundsOf circuit.now plan.now self.old }
+        requires inputs { AreInputsOf circuit.now inputs.now }
+        requires name { blank.name ≡ L.name }
+        requires parts { blank.parts ≡ L.parts }
+        requires some { 0 < blank.parts }
+        ensures rounds { AreRoundsOf circuit.now plan.now self.new }
+        ensures state { state_of self.new ≡ state_of self.old }
+        ensures nets { numbers self.new.before.nets ≡ valuation circuit.now (state_of self.old) (numbers inputs.now) }
+    {
+        let mut steps = Steps::<L>::new(blank);
+        self.value_nets(circuit, plan, inputs, &mut steps);
+        mem::swap(&mut self.before, &mut self.now);
+    }
+
+    /// Gives the nets their values under the state and these inputs.
+    fn value_nets<L: Ledger>(
+        &mut self,
+        circuit: &Circuit,
+        plan: &Plan,
+        inputs: &[Bits],
+        steps: &mut Steps<L>,
+    )
+        requires plan { IsPlanOf circuit.now plan.now }
+        requires rounds { AreRoundsOf circuit.now plan.now self.old }
+        requires inputs { AreInputsOf circuit.now inputs.now }
+        ensures rounds { AreRoundsOf circuit.now plan.now self.new }
+        ensures regs { self.new.regs ≡ self.old.regs }
+        ensures rows { self.new.rows ≡ self.old.rows }
+        ensures ports { self.new.ports ≡ self.old.ports }
+        ensures before { self.new.before ≡ self.old.before }
+        ensures nets { numbers self.new.now.nets ≡ valuation circuit.now (state_of self.old) (numbers inputs.now) }
+        ensures steps { steps.new ≡ steps.old + length circuit.now.cells }
+    {
+        put_regs(self.regs.as_slice(), &mut self.now);
+        put_reads(circuit, self.ports.as_slice(), &mut self.now);
+        evaluate(
+            circuit,
+            plan,
+            inputs,
+            self.rows.as_slice(),
+            &mut self.rooms,
+            &mut self.now,
+            steps,
+        );
+    }
+
+    /// Gives the registers and the memories their next values, and tells whether one of these is another.
+    fn next_state(&mut self, circuit: &Circuit, plan: &Plan) -> bool
+        requires plan { IsPlanOf circuit.now plan.now }
+        requires rounds { AreRoundsOf circuit.now plan.now self.old }
+        ensures rounds { AreRoundsOf circuit.now plan.now self.new }
+        ensures before { self.new.before ≡ self.old.before }
+        ensures now { self.new.now ≡ self.old.now }
+        ensures state { state_of self.new ≡ next circuit.now (state_of self.old) (numbers self.old.before.nets) (numbers self.old.now.nets) }
+        ensures changed { result ≡ not (same_state (state_of self.new) (state_of self.old)) }
+    {
+        let _ = plan;
+        let regs_changed = next_regs(circuit, &self.before, &self.now, &mut self.regs);
+        let mems_changed = next_mems(
+            circuit,
+            &self.before,
+            &self.now,
+            &mut self.rows,
+            &mut self.ports,
+        );
+        regs_changed | mems_changed
+    }
+
+    /// Does one round, and tells whether it changed the state. It takes a step for each cell, and no
+    /// memory.
+    pub(crate) fn round<L: Ledger>(
+        &mut self,
+        circuit: &Circuit,
+        plan: &Plan,
+        inputs: &[Bits],
+        steps: &mut Steps<L>,
+    ) -> bool
+        requires plan { IsPlanOf circuit.now plan.now }
+        requires rounds { AreRoundsOf circuit.now plan.now self.old }
+        requires inputs { AreInputsOf circuit.now inputs.now }
+        ensures rounds { AreRoundsOf circuit.now plan.now self.new }
+        ensures nets { numbers self.new.before.nets ≡ valuation circuit.now (state_of self.old) (numbers inputs.now) }
+        ensures state { state_of self.new ≡ next circuit.now (state_of self.old) (numbers self.old.before.nets) (numbers self.new.before.nets) }
+        ensures changed { result ≡ not (same_state (state_of self.new) (state_of self.old)) }
+        ensures steps { steps.new ≡ steps.old + length circuit.now.cells }
+    {
+        self.value_nets(circuit, plan, inputs, steps);
+        let changed = self.next_state(circuit, plan);
+        mem::swap(&mut self.before, &mut self.now);
+        changed
+    }
+}
