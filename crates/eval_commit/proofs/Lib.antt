@@ -12,3 +12,4 @@ pub mod PortsKept
 pub mod RegsAfter
 pub mod Settling
 pub mod Standing
+pub mod Machines

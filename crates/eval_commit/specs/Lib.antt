@@ -4,3 +4,4 @@ pub mod Computed
 pub mod Round
 pub mod Stored
 pub mod Rounds
+pub mod Machine

@@ -2,6 +2,7 @@
 //! to sample by them.
 #![tactic(auto)]
 
+mod machine;
 mod node;
 mod ports;
 mod put;
@@ -13,6 +14,7 @@ mod step;
 #[cfg(test)]
 mod tests;
 
+pub use machine::Machine;
 pub use round::evaluate;
 pub use settle::Settled;
 pub use start::{law_of_first_state, rooms_of, start_rows, zero_inputs};
