@@ -1,16 +1,13 @@
 -- What a machine keeps, and what stands before the first sample.
-use Rattle.std.proofs.Common.{◌≡◌, ℕ, zero, suc, ◌*◌, ◌≤◌, List, [], ◌∷◌, map, length, refl, sym, ◌∙◌, ap, subst, arith, Some, true}
-use Rattle.std.specs.Prelude.{◌==◌, nat_le, slice_get, slice_index}
-use Rattle.std.specs.List.{list_all}
-use Rattle.std.proofs.lemmas.Bool.{and_parts}
-use Rattle.std.proofs.lemmas.Bool.Decides.{nat_tests}
+use Rattle.std.proofs.Common.{◌≡◌, ℕ, zero, suc, ◌≤◌, List, [], ◌∷◌, map, length, refl, sym, ◌∙◌, ap, subst, arith, Some, true}
+use Rattle.std.specs.Prelude.{slice_get, slice_index}
 use Rattle.std.proofs.lemmas.List.{length-map}
 use Rattle.sim_base.specs.BitValue.{BitValue, zeros}
 use Rattle.circuit.specs.Run.{Standing, row_in, start, start_state}
 use Rattle.circuit.specs.State.{State, Stored}
 use Rattle.circuit.specs.Store.{start_store}
 use Rattle.circuit.specs.Valuation.{valuation}
-use Rattle.circuit.specs.Valid.{address_width, is_countable, mem_fits, read_fits, sig_of, widest}
+use Rattle.circuit.specs.Valid.{is_valid}
 use Rattle.circuit.specs.declared.netlist.Circuit.{Circuit}
 use Rattle.circuit.specs.declared.memory.Mem.{Mem}
 use Rattle.circuit.specs.declared.memory.ReadPort.{ReadPort}
@@ -25,7 +22,7 @@ use Rattle.eval_commit.specs.Round.{IsBlank, input_width}
 use Rattle.eval_commit.specs.Rounds.{ArePortsOf, AreRoundsOf, standing_of, state_of}
 use Rattle.eval_commit.specs.Stored.{kept_state, stored_all}
 use Rattle.eval_commit.specs.declared.step.Rounds.{Rounds}
-use Rattle.eval_commit.proofs.PortsKept.{start_stored_is}
+use Rattle.eval_commit.proofs.PortsKept.{start_ports_wide, start_stored_is}
 use Rattle.eval_commit.proofs.Starting.{first_holds}
 
 pub ports_long : (c : Circuit) (ports : List (List BitValue)) → ArePortsOf c ports → length ports ≡ length c.mems
@@ -45,34 +42,6 @@ pub zero_numbers : (f : ℕ → ℕ) (nets : List ℕ) → numbers (map (λ net.
 zero_numbers f [] = refl
 zero_numbers f (n ∷ ns) = ap (λ xs. 0 ∷ xs) (zero_numbers f ns)
 
-equal_from : (m n : ℕ) → (m == n) ≡ true → m ≡ n
-equal_from m n e = grind (arith, nat_tests)
-
-inits_wide : (c : Circuit) (m : Mem) (abits : ℕ) (ps : List ReadPort) → list_all (read_fits c m abits) ps ≡ true → widths (map (λ (p : ReadPort). p.init) ps) ≡ map (λ _. m.width) ps
-inits_wide c m abits [] e = refl
-inits_wide c m abits (p ∷ ps) e =
-    let t = and_parts (read_fits c m abits p) (list_all (read_fits c m abits) ps) e in
-    let a = and_parts (sig_of c 1 p.clk) _ t.0 in
-    let b = and_parts (sig_of c 1 p.en) _ a.1 in
-    let d = and_parts (sig_of c abits p.addr) _ b.1 in
-    let s = and_parts (length p.see == length m.writes) (p.init.width == m.width) d.1 in
-    ap (λ (w : ℕ). w ∷ widths (map (λ (q : ReadPort). q.init) ps)) (equal_from p.init.width m.width s.1) ∙ ap (λ (ws : List ℕ). m.width ∷ ws) (inits_wide c m abits ps t.1)
-
-mem_inits_wide : (c : Circuit) (m : Mem) → mem_fits c m ≡ true → widths (map (λ (p : ReadPort). p.init) m.reads) ≡ map (λ _. m.width) m.reads
-mem_inits_wide c m e =
-    let a = and_parts (nat_le m.width widest) _ e in
-    let b = and_parts (m.init.width == m.size * m.width) _ a.1 in
-    let d = and_parts (is_countable (length m.reads)) _ b.1 in
-    let r = and_parts (list_all (read_fits c m (address_width m.reads m.writes)) m.reads) _ d.1 in
-    inits_wide c m (address_width m.reads m.writes) m.reads r.0
-
-start_ports_wide : (c : Circuit) (ms : List Mem) → ((n : ℕ) (m : Mem) → slice_get ms n ≡ Some m → mem_fits c m ≡ true)
-    → map widths (map (λ (m : Mem). map (λ (p : ReadPort). p.init) m.reads) ms) ≡ map (λ (m : Mem). map (λ _. m.width) m.reads) ms
-start_ports_wide c [] fit = refl
-start_ports_wide c (m ∷ ms) fit =
-    ap (λ ws. ws ∷ map widths (map (λ (x : Mem). map (λ (p : ReadPort). p.init) x.reads) ms)) (mem_inits_wide c m (fit 0 m refl))
-    ∙ ap (λ wss. map (λ _. m.width) m.reads ∷ wss) (start_ports_wide c ms (λ n x at. fit (suc n) x at))
-
 -- the registers, rows and read ports have their start values, and both stores are those of the start
 pub record AreFirst (c : Circuit) (r : Rounds) : Type 0 where
   pub regs : r.regs ≡ map (λ x. x.init) c.regs
@@ -83,11 +52,11 @@ pub record AreFirst (c : Circuit) (r : Rounds) : Type 0 where
   pub rooms : widths r.rooms.items ≡ map (λ m. m.width) c.mems
 
 pub first_rounds : (c : Circuit) (plan : Plan) (r : Rounds) → AreFirst c r → IsStoreOf c (start_store c) → AreAllRows c (map start_rows c.mems) → IsBlank plan.roots (start_store c).nets
-    → ((n : ℕ) (m : Mem) → slice_get c.mems n ≡ Some m → mem_fits c m ≡ true) → AreRoundsOf c plan r
-first_rounds c plan r is of sized blank fit = record {
+    → is_valid c ≡ true → AreRoundsOf c plan r
+first_rounds c plan r is of sized blank valid = record {
   regs = ap widths is.regs ∙ of.regs;
   rows = subst (AreAllRows c) (sym is.rows) sized;
-  ports = ap (map widths) is.ports ∙ start_ports_wide c c.mems fit;
+  ports = ap (map widths) is.ports ∙ start_ports_wide c valid;
   before = subst (IsStoreOf c) (sym is.before) of;
   before_blank = subst (λ (s : Store). IsBlank plan.roots s.nets) (sym is.before) blank;
   now = subst (IsStoreOf c) (sym is.now) of;

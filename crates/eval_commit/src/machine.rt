@@ -1,5 +1,6 @@
 //! A circuit that goes from sample to sample.
 ghost use Rattle.std.specs.Prelude.{◌≡◌, ℕ, ◌+◌, ◌*◌, ◌<◌, true, Some, None, IfOk, is_some, length, option_and_then, slice_get, slice_index};
+ghost use Rattle.std.specs.Arc.{arc_value};
 ghost use Rattle.sim_base.specs.BitValue.{bit_value};
 ghost use Rattle.circuit.specs.Run.{Standing, rounds_from, row_in, settled, start};
 ghost use Rattle.circuit.specs.declared.memory.Mem.{Mem as TheMem};
@@ -16,38 +17,40 @@ use driver_check::Plan;
 use sim_base::{Bits, NoMemory, Steps};
 use std::alloc::Global;
 use std::marker::Model;
+use std::sync::Arc;
 use std::sync::ledger::Ledger;
 
 /// A circuit, and how it stands after the last sample. Contracts see these two; once a sample did not
 /// settle, it stands nowhere.
 #[derive(Debug, Drop)]
-pub struct Machine<'a> {
-    circuit: &'a Circuit,
+pub struct Machine {
+    circuit: Arc<Circuit>,
     plan: Plan,
     rounds: Rounds,
     /// Whether a sample did not settle.
     stuck: bool,
 }
 
-impl<'a> Model for Machine<'a> {
+impl Model for Machine {
     ghost use Rattle.std.specs.Prelude.{Some, None, if◌then◌else◌};
+    ghost use Rattle.std.specs.Arc.{arc_value};
     ghost use Rattle.eval_commit.specs.Machine.{MachineState};
     ghost use Rattle.eval_commit.specs.Rounds.{AreRoundsOf, IsPlanOf, standing_of};
 
     ghost Value = { MachineState };
 
-    ghost view = { λ m. record { circuit = m.circuit.now; standing = if m.stuck then None else Some (standing_of m.rounds) } };
+    ghost view = { λ m. record { circuit = arc_value m.circuit; standing = if m.stuck then None else Some (standing_of m.rounds) } };
 
-    ghost invariant = { λ m. IsPlanOf m.circuit.now m.plan × AreRoundsOf m.circuit.now m.plan m.rounds };
+    ghost invariant = { λ m. IsPlanOf (arc_value m.circuit) m.plan × AreRoundsOf (arc_value m.circuit) m.plan m.rounds };
 }
 
-impl<'a> Machine<'a> {
+impl Machine {
     /// Stands before the first sample.
-    pub fn new(alloc: Global, circuit: &'a Circuit, plan: Plan) -> Result<Machine<'a>, NoMemory>
-        requires { IsPlanOf circuit.now plan }
-        ensures { IfOk result (λ m. m ≡ record { circuit = circuit.now; standing = Some (start circuit.now) }) }
+    pub fn new(alloc: Global, circuit: Arc<Circuit>, plan: Plan) -> Result<Machine, NoMemory>
+        requires { IsPlanOf (arc_value circuit) plan }
+        ensures { IfOk result (λ m. m ≡ record { circuit = arc_value circuit; standing = Some (start (arc_value circuit)) }) }
     {
-        let rounds = Rounds::start(alloc, circuit, &plan)?;
+        let rounds = Rounds::start(alloc, &circuit, &plan)?;
         Ok(Machine {
             circuit,
             plan,
@@ -69,7 +72,7 @@ impl<'a> Machine<'a> {
         if self.stuck {
             return Settled::No;
         }
-        let settled = self.rounds.settle(self.circuit, &self.plan, inputs, steps);
+        let settled = self.rounds.settle(&self.circuit, &self.plan, inputs, steps);
         self.stuck = matches!(settled, Settled::No);
         settled
     }

@@ -17,7 +17,7 @@ use crate::start::{law_of_first_state, rooms_of, start_rows, zero_inputs};
 use circuit::{Circuit, Store, Values};
 use driver_check::Plan;
 use memory_cells::Rows;
-use signal_words::{law_of_start, law_of_stores};
+use signal_words::law_of_start;
 use sim_base::{Bits, NoMemory, Steps};
 use std::alloc::Global;
 use std::marker::Brand;
@@ -45,7 +45,6 @@ impl Rounds {
         ensures state { IfOk result (λ r. state_of r ≡ start_state circuit.now) }
     {
         law_of_start();
-        law_of_stores();
         law_of_first_state();
         Ok(Rounds {
             regs: start_regs(alloc, circuit)?,

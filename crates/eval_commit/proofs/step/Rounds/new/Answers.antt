@@ -26,7 +26,7 @@ first c = record {
 pub returns-clause-rounds : goal.returns-clause-rounds
 returns-clause-rounds c plan =
     first_rounds c.args.circuit.now plan (made c) (first c) (c.law_of_start.ensures c.args.circuit.now c.requires) (c.law_of_first_state.ensures.rows c.args.circuit.now)
-    (c.law_of_first_state.ensures.blank c.args.circuit.now plan.roots) (λ n m at. c.law_of_stores.ensures.memory c.args.circuit.now n m c.requires at)
+    (c.law_of_first_state.ensures.blank c.args.circuit.now plan.roots) c.requires
 
 pub returns-clause-state : goal.returns-clause-state
 returns-clause-state c = first_state c.args.circuit.now (made c) (first c)
