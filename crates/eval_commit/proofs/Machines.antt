@@ -1,7 +1,6 @@
 -- What a machine shows.
 use Rattle.std.proofs.Common.{◌≡◌, ℕ, ◌<◌, List, length, get_or, cond, sym, ◌∙◌, ap, subst, arith, Bool, true, false, Some, None}
 use Rattle.std.specs.Prelude.{slice_get, slice_index}
-use Rattle.std.proofs.lemmas.List.{length-map}
 use Rattle.std.proofs.lemmas.Option.{none-some}
 use Rattle.sim_base.specs.BitValue.{BitValue}
 use Rattle.circuit.specs.Run.{Standing, row_in}
@@ -15,6 +14,7 @@ use Rattle.eval_commit.specs.Machine.{MachineState}
 use Rattle.eval_commit.specs.Rounds.{AreRoundsOf, standing_of}
 use Rattle.eval_commit.specs.declared.step.Rounds.{Rounds}
 use Rattle.eval_commit.proofs.Belonging.{fetched, value_read}
+use Rattle.eval_commit.proofs.PortsOver.{long_as}
 use Rattle.eval_commit.proofs.Standing.{ports_long, row_kept}
 use Rattle.eval_commit.proofs.Written.{number_in}
 
@@ -33,7 +33,7 @@ module _ (c : Circuit) (plan : Plan) (stuck : Bool) (r : Rounds) (m : MachineSta
   circuit_is = sym (ap (λ (x : MachineState). x.circuit) view)
 
   nets_long : length r.before.nets ≡ length c.nets
-  nets_long = sym (length-map r.before.nets (λ (v : BitValue). v.width)) ∙ ap length are.before.nets ∙ length-map c.nets (λ (x : Net). x.width)
+  nets_long = long_as (λ (v : BitValue). v.width) (λ (x : Net). x.width) r.before.nets c.nets are.before.nets
 
   pub net_number : (n : ℕ) (ys : List BitValue) (v : BitValue) (s : Standing) → n < length m.circuit.nets → ys ≡ r.before.nets → v ≡ get_or ys n v → m.standing ≡ Some s → v.number ≡ slice_index s.nets n
   net_number n ys v s lt is item at =

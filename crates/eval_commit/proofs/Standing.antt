@@ -1,7 +1,6 @@
 -- What a machine keeps, and what stands before the first sample.
 use Rattle.std.proofs.Common.{◌≡◌, ℕ, zero, suc, ◌≤◌, List, [], ◌∷◌, map, length, refl, sym, ◌∙◌, ap, subst, arith, Some, true}
 use Rattle.std.specs.Prelude.{slice_get, slice_index}
-use Rattle.std.proofs.lemmas.List.{length-map}
 use Rattle.sim_base.specs.BitValue.{BitValue, zeros}
 use Rattle.circuit.specs.Run.{Standing, row_in, start, start_state}
 use Rattle.circuit.specs.State.{State, Stored}
@@ -22,11 +21,12 @@ use Rattle.eval_commit.specs.Round.{IsBlank, input_width}
 use Rattle.eval_commit.specs.Rounds.{ArePortsOf, AreRoundsOf, standing_of, state_of}
 use Rattle.eval_commit.specs.Stored.{kept_state, stored_all}
 use Rattle.eval_commit.specs.declared.step.Rounds.{Rounds}
+use Rattle.eval_commit.proofs.PortsOver.{long_as}
 use Rattle.eval_commit.proofs.PortsKept.{start_ports_wide, start_stored_is}
 use Rattle.eval_commit.proofs.Starting.{first_holds}
 
 pub ports_long : (c : Circuit) (ports : List (List BitValue)) → ArePortsOf c ports → length ports ≡ length c.mems
-ports_long c ports e = sym (length-map ports widths) ∙ ap length e ∙ length-map c.mems (λ (m : Mem). map (λ _. m.width) m.reads)
+ports_long c ports e = long_as widths (λ (m : Mem). map (λ _. m.width) m.reads) ports c.mems e
 
 -- a row of a memory
 pub row_kept : (rows : List RowValues) (ports : List (List BitValue)) (n : ℕ) (r : RowValues) (i : ℕ) → length rows ≤ length ports → slice_get rows n ≡ Some r → row_in (slice_get (stored_all rows ports) n) i ≡ slice_index r.rows i

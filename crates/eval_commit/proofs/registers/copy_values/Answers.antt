@@ -1,19 +1,28 @@
+use Rattle.std.proofs.Common.{sym, ◌∙◌, ap, arith, length}
 use Rattle.driver_check.proofs.Places.{read}
-use Rattle.std.proofs.Common.{sym, ap, ◌∙◌}
 use Rattle.sim_base.specs.BitValue.{BitValue}
-use Rattle.eval_commit.proofs.RegsAfter.{copied_more, one_copied}
-use Rattle.eval_commit.proofs.Written.{put_widths}
+use Rattle.eval_commit.proofs.PortsOver.{long_as, over_all, over_length, over_old, over_put, there_as}
 use Rattle.eval_commit.proofs.registers.copy_values.Goals as goal
+
+pub at-requires : goal.at-requires
+at-requires c =
+    let l = over_length c.args.from.now c.args.into.now c.loop-n.n in
+    let e = ap (length {A = BitValue}) c.loop-n.invariant in
+    let w = long_as (λ (v : BitValue). v.width) (λ (v : BitValue). v.width) c.args.into.now c.args.from.now c.requires in
+    omega (arith, c.loop-n-test.true, l, e, w)
 
 pub put_value-requires : goal.put_value-requires
 put_value-requires c =
-    one_copied c.args.from.now c.loop-n.into c.loop-n.n c.index-from-n.result c.at.result.now (read c.args.from.now c.loop-n.n c.index-from-n.result c.loop-n-test.true c.index-from-n.is) c.at.ensures.value c.loop-n.invariant.wide
+    let new = read c.args.from.now c.loop-n.n c.index-from-n.result c.loop-n-test.true c.index-from-n.is in
+    let old = over_old c.args.from.now c.args.into.now c.loop-n.into c.loop-n.n c.at.result.now c.loop-n.invariant c.at.ensures.value in
+    there_as (λ (v : BitValue). v.width) (λ (v : BitValue). v.width) c.args.into.now c.args.from.now c.loop-n.n c.at.result.now c.index-from-n.result c.requires old new
 
 pub loop-n-preserved : goal.loop-n-preserved
 loop-n-preserved c =
-    let at = read c.args.from.now c.loop-n.n c.index-from-n.result c.loop-n-test.true c.index-from-n.is in
-    let wide = one_copied c.args.from.now c.loop-n.into c.loop-n.n c.index-from-n.result c.at.result.now at c.at.ensures.value c.loop-n.invariant.wide in
-    record {
-      wide = put_widths c.loop-n.into c.loop-n.n c.at.result.now c.put_value.new.into c.at.ensures.value (ap (λ (v : BitValue). v.width) c.put_value.ensures.value ∙ sym wide) ∙ c.loop-n.invariant.wide;
-      first = copied_more c.args.from.now c.loop-n.into c.loop-n.n c.index-from-n.result c.put_value.new.into c.loop-n.invariant.wide at c.put_value.ensures.value c.loop-n.invariant.first;
-    }
+    let new = read c.args.from.now c.loop-n.n c.index-from-n.result c.loop-n-test.true c.index-from-n.is in
+    over_put c.args.from.now c.args.into.now c.loop-n.into c.loop-n.n c.index-from-n.result c.at.result.now c.put_value.new.into c.loop-n.invariant new c.at.ensures.value c.put_value.ensures.value
+
+pub returns : goal.returns
+returns c =
+    let w = long_as (λ (v : BitValue). v.width) (λ (v : BitValue). v.width) c.args.into.now c.args.from.now c.requires in
+    c.loop-n.invariant ∙ over_all c.args.from.now c.args.into.now c.loop-n.n (sym w) (omega (arith, c.loop-n-test.false))

@@ -1,9 +1,6 @@
-use Rattle.std.proofs.Common.{◌≡◌, take}
-use Rattle.signal_words.specs.Values.{widths}
+use Rattle.std.proofs.Common.{◌≡◌}
+use Rattle.eval_commit.proofs.PortsOver.{over}
 use Rattle.eval_commit.proofs.registers.copy_values.Given as goal
 
 abbrev pub invariant-loop-n : goal.invariant-loop-n
-invariant-loop-n l = record {
-  wide : widths l.into ≡ widths l.from;
-  first : take l.n l.into ≡ take l.n l.from;
-}
+invariant-loop-n l = l.into ≡ over l.from l.fn.into l.n
