@@ -2,6 +2,7 @@
 //! to sample by them.
 #![tactic(auto)]
 
+mod copy;
 mod machine;
 mod node;
 mod ports;

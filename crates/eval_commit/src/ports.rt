@@ -11,10 +11,10 @@ ghost use Rattle.signal_words.specs.Values.{digits_in, widths};
 ghost use Rattle.eval_commit.specs.Computed.{AreAllRows};
 ghost use Rattle.eval_commit.specs.Stored.{stored_all};
 
+use crate::copy::copy_values;
 use circuit::{Circuit, Mem, Store, Values};
 use memory_cells::{Rows, clock_ports, law_of_memories};
 use sim_base::{Bits, NoMemory};
-use state_cells::put_value;
 use std::alloc::Global;
 use std::marker::Model;
 
@@ -104,16 +104,6 @@ pub(crate) fn next_mems(
     changed
 }
 
-/// Puts values of the same widths.
-fn put_outs(outs: &[Bits], into: &mut Values<Bits>)
-    requires { widths outs.now ≡ widths into.old }
-    ensures { into.new ≡ outs.now }
-{
-    for (n, out) in outs.iter().enumerate() {
-        put_value(out, into.at(n));
-    }
-}
-
 /// Copies the values of the read ports to a store. It takes no memory.
 pub(crate) fn put_reads(circuit: &Circuit, ports: &[Ports], store: &mut Store)
     requires store { IsStoreOf circuit.now store.old }
@@ -126,6 +116,6 @@ pub(crate) fn put_reads(circuit: &Circuit, ports: &[Ports], store: &mut Store)
 {
     let _ = circuit;
     for (m, outs) in ports.iter().enumerate() {
-        put_outs(outs.as_slice(), store.reads.at(m));
+        copy_values(outs.as_slice(), store.reads.at(m));
     }
 }

@@ -6,9 +6,10 @@ ghost use Rattle.circuit.specs.Valid.{is_valid};
 ghost use Rattle.signal_words.specs.Stores.{IsStoreOf};
 ghost use Rattle.signal_words.specs.Values.{digits_in, numbers, widths};
 
+use crate::copy::copy_values;
 use circuit::{Circuit, Store, Values};
 use sim_base::{Bits, NoMemory};
-use state_cells::{law_of_rounds, next, put_value};
+use state_cells::{law_of_rounds, next};
 use std::alloc::Global;
 
 /// The values of the registers before the first sample.
@@ -55,14 +56,4 @@ pub(crate) fn put_regs(regs: &[Bits], store: &mut Store)
     ensures reads { store.new.reads ≡ store.old.reads }
 {
     copy_values(regs, &mut store.regs);
-}
-
-/// Copies each value to one of the same width.
-fn copy_values(from: &[Bits], into: &mut Values<Bits>)
-    requires { widths into.old ≡ widths from.now }
-    ensures { into.new ≡ from.now }
-{
-    for (n, value) in from.iter().enumerate() {
-        let _ = put_value(value, into.at(n));
-    }
 }

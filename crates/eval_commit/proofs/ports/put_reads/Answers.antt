@@ -12,12 +12,12 @@ at-requires c =
     let w = long_as widths widths c.args.ports.now c.args.store.now.reads (c.requires.ports ∙ sym c.requires.store.reads) in
     omega (arith, c.loop-m-test.true, l, e, w)
 
-pub put_outs-requires : goal.put_outs-requires
-put_outs-requires c =
+pub copy_values-requires : goal.copy_values-requires
+copy_values-requires c =
     let new = read c.args.ports.now c.loop-m.m c.index-ports-m.result c.loop-m-test.true c.index-ports-m.is in
     let old = over_old c.args.ports.now c.args.store.now.reads c.loop-m.store.reads c.loop-m.m c.at.result.now c.loop-m.invariant.reads c.at.ensures.value in
-    ap widths c.as_slice.ensures
-    ∙ there_as widths widths c.args.ports.now c.args.store.now.reads c.loop-m.m c.index-ports-m.result c.at.result.now (c.requires.ports ∙ sym c.requires.store.reads) new old
+    sym (ap widths c.as_slice.ensures
+    ∙ there_as widths widths c.args.ports.now c.args.store.now.reads c.loop-m.m c.index-ports-m.result c.at.result.now (c.requires.ports ∙ sym c.requires.store.reads) new old)
 
 pub loop-m-preserved : goal.loop-m-preserved
 loop-m-preserved c =
@@ -26,7 +26,7 @@ loop-m-preserved c =
       nets = c.loop-m.invariant.nets;
       regs = c.loop-m.invariant.regs;
       cells = c.loop-m.invariant.cells;
-      reads = over_put c.args.ports.now c.args.store.now.reads c.loop-m.store.reads c.loop-m.m c.index-ports-m.result c.at.result.now c.put_outs.new.into c.loop-m.invariant.reads new c.at.ensures.value (c.put_outs.ensures ∙ c.as_slice.ensures);
+      reads = over_put c.args.ports.now c.args.store.now.reads c.loop-m.store.reads c.loop-m.m c.index-ports-m.result c.at.result.now c.copy_values.new.into c.loop-m.invariant.reads new c.at.ensures.value (c.copy_values.ensures ∙ c.as_slice.ensures);
     }
 
 pub returns-clause-reads : goal.returns-clause-reads

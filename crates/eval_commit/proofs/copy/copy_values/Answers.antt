@@ -2,7 +2,7 @@ use Rattle.std.proofs.Common.{sym, ◌∙◌, ap, arith, length}
 use Rattle.driver_check.proofs.Places.{read}
 use Rattle.sim_base.specs.BitValue.{BitValue}
 use Rattle.eval_commit.proofs.PortsOver.{long_as, over_all, over_length, over_old, over_put, there_as}
-use Rattle.eval_commit.proofs.registers.copy_values.Goals as goal
+use Rattle.eval_commit.proofs.copy.copy_values.Goals as goal
 
 pub at-requires : goal.at-requires
 at-requires c =

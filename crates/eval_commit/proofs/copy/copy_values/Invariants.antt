@@ -1,6 +1,6 @@
 use Rattle.std.proofs.Common.{◌≡◌}
 use Rattle.eval_commit.proofs.PortsOver.{over}
-use Rattle.eval_commit.proofs.ports.put_outs.Given as goal
+use Rattle.eval_commit.proofs.copy.copy_values.Given as goal
 
 abbrev pub invariant-loop-n : goal.invariant-loop-n
-invariant-loop-n l = l.into ≡ over l.outs l.fn.into l.n
+invariant-loop-n l = l.into ≡ over l.from l.fn.into l.n
