@@ -10,7 +10,7 @@ use Rattle.std.proofs.lemmas.Nat.Bits.{same_from_bits, bit_at_cat_low, bit_at_ca
 use Rattle.sim_base.specs.BitValue.{BitValue, bit_value, digit_after_copy}
 use Rattle.sim_base.proofs.Words.{copied_in, copied_below, copied_above}
 use Rattle.sim_base.proofs.Field.{bit_at_mod, bit_at_shr}
-use Rattle.signal_words.proofs.Numbers.{shifted_below, whole_field}
+use Rattle.signal_words.proofs.Numbers.{shifted_below}
 use Rattle.cell_wide.specs.Words.{Passes, IsWritten}
 
 -- ---- reading on
@@ -178,12 +178,3 @@ all_compared low next high behind width at i le =
 pub none_compared : (low high : ℕ → ℕ) (width : ℕ) → low 0 < 2 ^ 0 → high 0 < 2 ^ 0 → IsComparing low low high high width 0
 none_compared low high width a b =
     record { most = omega arith; passed = none_passed low a; other = none_passed high b; equal = omega (arith, a, b) }
-
--- ---- one word
-
-pub word_written : (word field : ℕ) (old new : BitValue) → field ≡ old.number / 2 ^ 0 % 2 ^ old.width → old.number < 2 ^ old.width → new ≡ bit_value old.width word → IsWritten word old new (not (field == word))
-word_written word field old new e lt is = record { value = is; told = ap (λ x. not (x == word)) (e ∙ whole_field old.number old.width lt) }
-
-pub word_same : (word field : ℕ) (old : BitValue) → field ≡ old.number / 2 ^ 0 % 2 ^ old.width → old.number < 2 ^ old.width → field ≡ word → IsWritten word old old (not (field == word))
-word_same word field old e lt same =
-    word_written word field old old e lt (ap (bit_value old.width) (sym (whole_field old.number old.width lt) ∙ sym e ∙ same))

@@ -12,8 +12,7 @@ pub fn put_word(into: &mut Bits, word: u64) -> bool
     requires below { word < 2 ^ into.old.width }
     ensures { IsWritten word into.old into.new result }
 {
-    let width = into.width();
-    let changed = into.field(0, width) != word;
+    let changed = into.word() != word;
     if changed {
         into.put(word);
     }

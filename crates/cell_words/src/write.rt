@@ -53,10 +53,11 @@ fn put_word(into: &mut Bits, word: u64) -> bool
     ensures value { into.new ≡ bit_value into.old.width word }
     ensures changed { result ≡ not (into.old.number == word) }
 {
-    let width = into.width();
-    let before = into.field(0, width);
-    into.put(word);
-    before != word
+    let changed = into.word() != word;
+    if changed {
+        into.put(word);
+    }
+    changed
 }
 
 /// Writes as many of the lowest digits of `number` as a value of at most 128 bits has, and answers whether

@@ -9,9 +9,12 @@ use Rattle.circuit.specs.Signal.{Digits, piece_number, piece_width, sig_number, 
 use Rattle.circuit.specs.declared.netlist.Piece.{Piece}
 use Rattle.circuit.specs.declared.netlist.Piece.TheVariants as piece
 use Rattle.signal_words.specs.Values.{digits_in, numbers, width_at, first_width, IsInside, AreInside, IsPlace}
-use Rattle.signal_words.proofs.Numbers.{field_gathered, shifted_below, low_field, high_part}
+use Rattle.signal_words.proofs.Numbers.{field_gathered, shifted_below, low_field, high_part, whole_field}
 
 -- ---- one piece
+
+pub same_value : (w v m n : ℕ) → w ≡ v → m ≡ n → bit_value w m ≡ bit_value v n
+same_value w v m n a b = cc (a, b)
 
 -- the value of a net that is read
 pub number_read : (values : List BitValue) (n : ℕ) (v : BitValue) → n < length values → v ≡ get_or values n v → get_or (numbers values) n 0 ≡ v.number
@@ -27,6 +30,15 @@ part_field values net at w = sym (field_gathered (get_or (numbers values) net 0)
 pub part_below : (values : List BitValue) (net at w : ℕ) → piece_number (digits_in values) (piece.Part net at w) < 2 ^ w
 part_below values net at w =
     subst (λ n. n < 2 ^ w) (sym (part_field values net at w)) (mod_below (get_or (numbers values) net 0 / 2 ^ at) (2 ^ w) (pow_pos w))
+
+-- a part as wide as its net is the net's value
+pub whole_net : (values : List BitValue) (net at w : ℕ) (v : BitValue) → IsInside values (piece.Part net at w) → v ≡ get_or values net v → w ≡ v.width → v.number < 2 ^ w
+    → v ≡ bit_value w (piece_number (digits_in values) (piece.Part net at w))
+whole_net values net at w v h e same lt =
+    let none : at ≡ 0 = omega (arith, h.1, width_read values net v h.0 e, same) in
+    let n : piece_number (digits_in values) (piece.Part net at w) ≡ v.number =
+    part_field values net at w ∙ ap (λ x. x / 2 ^ at % 2 ^ w) (number_read values net v h.0 e) ∙ ap (λ k. v.number / 2 ^ k % 2 ^ w) none ∙ whole_field v.number w lt in
+    same_value v.width w v.number (piece_number (digits_in values) (piece.Part net at w)) (sym same) (sym n)
 
 -- ---- a signal's first pieces
 
@@ -117,6 +129,3 @@ number_at_end values (p ∷ ps) at e = absurd (omega arith)
 pub width_at_end : (ps : List Piece) (at : ℕ) → length ps ≡ 0 → sig_width ps - at ≡ 0
 width_at_end [] at e = omega arith
 width_at_end (p ∷ ps) at e = absurd (omega arith)
-
-pub same_value : (w v m n : ℕ) → w ≡ v → m ≡ n → bit_value w m ≡ bit_value v n
-same_value w v m n a b = cc (a, b)

@@ -1,8 +1,9 @@
 -- Signals of one piece, or of none.
-use Rattle.std.proofs.Common.{◌≡◌, ◌<◌, ◌≤◌, ◌^◌, List, [], ◌∷◌, length, get_or, refl, ◌∙◌, ap, arith, lit<, Option, Some, None}
-use Rattle.std.specs.Prelude.{IfSome}
-use Rattle.sim_base.specs.BitValue.{BitValue}
-use Rattle.circuit.specs.Signal.{Digits, piece_number, piece_width, sig_number, sig_width}
+use Rattle.std.proofs.Common.{◌≡◌, ℕ, ◌<◌, ◌≤◌, ◌^◌, List, [], ◌∷◌, length, get_or, refl, ◌∙◌, ap, arith, lit<, Option, Some, None}
+use Rattle.std.specs.Borrow.{Bor}
+use Rattle.std.specs.Prelude.{IfSome, slice_index_or}
+use Rattle.sim_base.specs.BitValue.{BitValue, bit_value, number_of_words}
+use Rattle.circuit.specs.Signal.{Digits, piece_number, piece_width, sig_number, sig_value, sig_width}
 use Rattle.circuit.specs.declared.netlist.Piece.{Piece}
 use Rattle.signal_words.specs.Values.{digits_in, IsWordOf}
 use Rattle.signal_words.specs.declared.word.SigWord.{SigWord}
@@ -33,3 +34,17 @@ one_word_is values ps p (Some w) some few e small width number below = record {
   number_is = number ∙ one_number (digits_in values) ps p some few e;
   below = below;
 }
+
+-- the value that the only piece is
+pub one_value_is : (values : List BitValue) (ps : List Piece) (p : Piece) (value : Option (Bor BitValue)) → 1 ≤ length ps → length ps < 2 → p ≡ get_or ps 0 p
+    → IfSome value (λ v. v.now ≡ bit_value (piece_width p) (piece_number (digits_in values) p)) → IfSome value (λ v. v.now ≡ sig_value (digits_in values) ps)
+one_value_is values ps p None some few e is = tt
+one_value_is values ps p (Some v) some few e is =
+    is ∙ ap (λ w. bit_value w (piece_number (digits_in values) p)) (one_width ps p some few e) ∙ ap (bit_value (sig_width ps)) (one_number (digits_in values) ps p some few e)
+
+-- the number of one word
+pub only_word : (ws : List ℕ) → 1 ≤ length ws → length ws < 2 → slice_index_or ws 0 0 ≡ number_of_words ws
+unfolding number_of_words
+only_word [] some few = absurd (omega arith)
+only_word (w ∷ []) some few = omega arith
+only_word (w ∷ v ∷ ws) some few = absurd (omega arith)

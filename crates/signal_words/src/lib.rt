@@ -15,4 +15,4 @@ pub use piece::{piece_width, piece_word};
 pub use reader::SigReader;
 pub use run::{PieceReader, one_piece};
 pub use signal::{sig_bit, sig_field, sig_width, sig_word};
-pub use word::{SigWord, one_word, word_of};
+pub use word::{SigWord, one_word, whole_value, word_of};

@@ -1,6 +1,6 @@
 //! One piece of a signal.
-ghost use Rattle.std.specs.Prelude.{◌≡◌, ℕ, List, ◌+◌, ◌/◌, ◌%◌, ◌^◌, ◌<◌, ◌≤◌};
-ghost use Rattle.sim_base.specs.BitValue.{BitValue};
+ghost use Rattle.std.specs.Prelude.{◌≡◌, ℕ, List, ◌+◌, ◌/◌, ◌%◌, ◌^◌, ◌<◌, ◌≤◌, IfSome};
+ghost use Rattle.sim_base.specs.BitValue.{BitValue, bit_value};
 ghost use Rattle.circuit.specs.Signal.{piece_number, piece_width};
 ghost use Rattle.signal_words.specs.Values.{digits_in, IsInside};
 
@@ -38,18 +38,18 @@ pub fn piece_field(piece: &Piece, nets: &[Bits], at: u32, n: u32) -> u64
     }
 }
 
-/// The number of `n` bits of a value from its bit `at` on. Most parts begin with the first bit, and those need
-/// no shift.
+/// The number of a part of a value. Most parts are the whole value, and those need no shift.
 #[inline(always)]
-fn value_field(value: &Bits, at: u32, n: u32) -> u64
-    requires small { n ≤ 64 }
-    requires inside { at + n ≤ value.now.width }
-    ensures { result ≡ value.now.number / 2 ^ at % 2 ^ n }
+pub fn part_word(value: &Bits, at: u32, width: u32) -> u64
+    requires small { width ≤ 64 }
+    requires inside { at + width ≤ value.now.width }
+    ensures value { result ≡ value.now.number / 2 ^ at % 2 ^ width }
+    ensures below { result < 2 ^ width }
 {
-    if at == 0 {
-        value.field(0, n)
+    if width == value.width() {
+        value.word()
     } else {
-        value.field(at, n)
+        value.field(at, width)
     }
 }
 
@@ -63,9 +63,27 @@ pub fn piece_word(piece: &Piece, nets: &[Bits]) -> u64
 {
     match piece {
         Piece::Const(value) => {
-            let width = value.width();
-            value.field(0, width)
+            let _ = value.width();
+            value.word()
         }
-        Piece::Part { net, at, width } => value_field(&nets[*net as usize], *at, *width),
+        Piece::Part { net, at, width } => part_word(&nets[*net as usize], *at, *width),
+    }
+}
+
+/// The value that a piece is: a constant, or a net that the piece is the whole of.
+#[inline(always)]
+pub fn piece_value<'a>(piece: &'a Piece, nets: &'a [Bits]) -> Option<&'a Bits>
+    requires { IsInside nets.now piece.now }
+    ensures { IfSome result (λ value. value.now ≡ bit_value (piece_width piece.now) (piece_number (digits_in nets.now) piece.now)) }
+{
+    match piece {
+        Piece::Const(value) => Some(value),
+        Piece::Part { net, width, .. } => {
+            let value = &nets[*net as usize];
+            if *width == value.width() {
+                return Some(value);
+            }
+            None
+        }
     }
 }

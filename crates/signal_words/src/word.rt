@@ -1,9 +1,9 @@
 //! Signals of one word.
 ghost use Rattle.std.specs.Prelude.{◌≡◌, ◌<◌, ◌≤◌, ◌^◌, IfSome};
-ghost use Rattle.circuit.specs.Signal.{piece_number, piece_width, sig_width};
+ghost use Rattle.circuit.specs.Signal.{piece_number, piece_width, sig_value, sig_width};
 ghost use Rattle.signal_words.specs.Values.{digits_in, AreInside, IsInside, IsWordOf};
 
-use crate::piece::piece_word;
+use crate::piece::{piece_value, piece_width, piece_word};
 use crate::signal::{sig_width, sig_word};
 use circuit::Piece;
 use sim_base::Bits;
@@ -15,7 +15,42 @@ pub struct SigWord {
     pub number: u64,
 }
 
-/// The width and the number of a piece, where it has at most 64 bits.
+/// The width and the number of a value of one word.
+#[inline(always)]
+fn word_of_value(value: &Bits) -> Option<SigWord>
+    ensures small { IfSome result (λ word. word.width ≤ 64) }
+    ensures width { IfSome result (λ word. word.width ≡ value.now.width) }
+    ensures number { IfSome result (λ word. word.number ≡ value.now.number) }
+    ensures below { IfSome result (λ word. word.number < 2 ^ word.width) }
+{
+    match value.words() {
+        [number] => Some(SigWord {
+            width: value.width(),
+            number: *number,
+        }),
+        _ => None,
+    }
+}
+
+/// The width and the number of a piece of at most 64 bits that is less than a net.
+#[inline(always)]
+fn word_of_part(piece: &Piece, nets: &[Bits]) -> Option<SigWord>
+    requires { IsInside nets.now piece.now }
+    ensures small { IfSome result (λ word. word.width ≤ 64) }
+    ensures width { IfSome result (λ word. word.width ≡ piece_width piece.now) }
+    ensures number { IfSome result (λ word. word.number ≡ piece_number (digits_in nets.now) piece.now) }
+    ensures below { IfSome result (λ word. word.number < 2 ^ word.width) }
+{
+    let width = piece_width(piece);
+    if width > 64 {
+        return None;
+    }
+    let number = piece_word(piece, nets);
+    Some(SigWord { width, number })
+}
+
+/// The width and the number of a piece, where it has at most 64 bits. Most pieces are whole values, and those
+/// need no cut.
 #[inline(always)]
 fn word_of_piece(piece: &Piece, nets: &[Bits]) -> Option<SigWord>
     requires { IsInside nets.now piece.now }
@@ -24,23 +59,9 @@ fn word_of_piece(piece: &Piece, nets: &[Bits]) -> Option<SigWord>
     ensures number { IfSome result (λ word. word.number ≡ piece_number (digits_in nets.now) piece.now) }
     ensures below { IfSome result (λ word. word.number < 2 ^ word.width) }
 {
-    match piece {
-        Piece::Const(value) => {
-            let width = value.width();
-            if width > 64 {
-                return None;
-            }
-            let number = value.field(0, width);
-            Some(SigWord { width, number })
-        }
-        Piece::Part { width, .. } => {
-            let width = *width;
-            if width > 64 {
-                return None;
-            }
-            let number = piece_word(piece, nets);
-            Some(SigWord { width, number })
-        }
+    match piece_value(piece, nets) {
+        Some(value) => word_of_value(value),
+        None => word_of_part(piece, nets),
     }
 }
 
@@ -73,4 +94,16 @@ pub fn word_of(sig: &[Piece], nets: &[Bits]) -> Option<SigWord>
     }
     let number = sig_word(sig, nets);
     Some(SigWord { width, number })
+}
+
+/// The value that a signal is, where it is one piece: a constant, or a whole net.
+#[inline(always)]
+pub fn whole_value<'a>(sig: &'a [Piece], nets: &'a [Bits]) -> Option<&'a Bits>
+    requires { AreInside nets.now sig.now }
+    ensures { IfSome result (λ value. value.now ≡ sig_value (digits_in nets.now) sig.now) }
+{
+    match sig {
+        [piece] => piece_value(piece, nets),
+        _ => None,
+    }
 }
