@@ -19,7 +19,7 @@ fill_passes n w = ap (λ x. x - 1) (pow-add 2 n w) ∙ parts (2 ^ n) (2 ^ w) (po
         rw (e, k) (omega (arith, la))
 
 -- the complement of a number in two parts
-complement : (a b h r : ℕ) → h < b → r < a → (a * b - 1) - (h * a + r) ≡ ((b - 1) - h) * a + ((a - 1) - r)
+pub complement : (a b h r : ℕ) → h < b → r < a → (a * b - 1) - (h * a + r) ≡ ((b - 1) - h) * a + ((a - 1) - r)
 complement a b h r lh lr =
     let d : b ≡ suc h + (b - suc h) = omega (arith, lh) in
     let k : (b - 1) - h ≡ b - suc h = omega arith in

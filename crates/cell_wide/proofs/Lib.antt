@@ -9,3 +9,5 @@ pub mod Truths
 pub mod Selections
 pub mod Tested
 pub mod Narrow
+mod Wordwise
+mod Wholes

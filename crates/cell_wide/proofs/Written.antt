@@ -37,7 +37,7 @@ module _ (low next behind : ℕ → ℕ) (at n word : ℕ) (p : Passes low at (l
 -- ---- writing
 
 -- a number in which a field was written
-field_put : (number at n word new : ℕ) → word < 2 ^ n → ((j : ℕ) → bit_at new j ≡ digit_after_copy at word 0 n number j) → new ≡ number / 2 ^ (at + n) * 2 ^ (at + n) + (word * 2 ^ at + number % 2 ^ at)
+pub field_put : (number at n word new : ℕ) → word < 2 ^ n → ((j : ℕ) → bit_at new j ≡ digit_after_copy at word 0 n number j) → new ≡ number / 2 ^ (at + n) * 2 ^ (at + n) + (word * 2 ^ at + number % 2 ^ at)
 field_put number at n word new lt bits =
     same_from_bits new (number / 2 ^ (at + n) * 2 ^ (at + n) + (word * 2 ^ at + number % 2 ^ at)) (λ j.
     let low : number % 2 ^ at < 2 ^ at = mod_below number (2 ^ at) (pow_pos at) in

@@ -2,6 +2,8 @@
 -- many of the lowest make.
 use Rattle.std.specs.Prelude.{◌≡◌, ℕ, ◌+◌, ◌-◌, ◌*◌, ◌%◌, ◌^◌, min, bit_and, bit_or, bit_xor, ◌==◌, Bool, not, if◌then◌else◌}
 use Rattle.sim_base.specs.BitValue.{BitValue, bit_value}
+use Rattle.circuit.specs.declared.cell.Op.{Op}
+use Rattle.circuit.specs.declared.cell.Op.TheVariants as op
 use Rattle.cell_wide.specs.declared.words.Bitwise.{Bitwise}
 use Rattle.cell_wide.specs.declared.words.Bitwise.TheVariants as by
 
@@ -39,3 +41,12 @@ pub record IsWritten (number : ℕ) (old new : BitValue) (changed : Bool) : Type
 -- the digits of an operand: those of a signal, and behind its last one ones or zeros
 abbrev pub low_of_operand : BitValue → ℕ → Bool → ℕ → ℕ
 low_of_operand signal left ones w = low_of_chain (low_of_number signal.number) left (low_of_fill ones) w
+
+-- what a type of cell makes of two numbers with w digits, digit by digit; other types keep the first
+abbrev pub digitwise : Op → ℕ → ℕ → ℕ → ℕ
+digitwise op.And w a b = bit_and a b
+digitwise op.Or w a b = bit_or a b
+digitwise op.Xor w a b = bit_xor a b
+digitwise op.Xnor w a b = (2 ^ w - 1) - bit_xor a b
+digitwise op.Not w a b = (2 ^ w - 1) - a
+digitwise _ w a b = a

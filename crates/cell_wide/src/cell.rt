@@ -10,6 +10,7 @@ ghost use Rattle.cell_wide.specs.Words.{IsWritten};
 use crate::bitwise::{bitwise, unary};
 use crate::select::{mux, selection};
 use crate::truth::truth;
+use crate::whole::{bitwise_values, equality_of_values, unary_values};
 use circuit::{Cell, Op, Store};
 use signal_words::{SigWord, one_word, word_of};
 use sim_base::{Bits, Steps};
@@ -65,6 +66,16 @@ fn computed_of_ports(cell: &Cell, nets: &[Bits], into: &mut Bits) -> bool
     computed_of_pieces(cell, nets, into)
 }
 
+/// The same, apart from the ways for whole values.
+#[inline(never)]
+pub fn computed_of_parts(cell: &Cell, nets: &[Bits], into: &mut Bits) -> bool
+    requires kind { is_computed cell.now.op ≡ true }
+    requires ready { IsReady nets.now cell.now into.old }
+    ensures { IsWritten (output (digits_in nets.now) cell.now) into.old into.new result }
+{
+    computed_of_ports(cell, nets, into)
+}
+
 /// Writes the output of a cell, and tells whether that changed it.
 #[inline(always)]
 fn written(cell: &Cell, nets: &[Bits], into: &mut Bits) -> bool
@@ -76,6 +87,9 @@ fn written(cell: &Cell, nets: &[Bits], into: &mut Bits) -> bool
         Op::Mux => mux(cell, nets, into),
         Op::Pmux | Op::Bmux | Op::Demux => selection(cell, nets, into),
         Op::Bwmux | Op::Bweqx | Op::Slice | Op::Concat => selection(cell, nets, into),
+        Op::Not | Op::Pos => unary_values(cell, nets, into),
+        Op::And | Op::Or | Op::Xor | Op::Xnor => bitwise_values(cell, nets, into),
+        Op::Eq | Op::Ne | Op::Eqx | Op::Nex => equality_of_values(cell, nets, into),
         _ => computed_of_ports(cell, nets, into),
     }
 }

@@ -9,6 +9,8 @@ mod select;
 #[cfg(test)]
 mod tests;
 mod truth;
+mod values;
+mod whole;
 mod word;
 mod words;
 mod write;

@@ -9,10 +9,11 @@ ghost use Rattle.cell_wide.specs.Words.{IsWritten};
 
 use crate::count::lowest;
 use crate::operand::is_zero;
+use crate::values::{only_word, write_digitwise};
 use crate::words::{Bitwise, Chain, Fill, Inverse, Pair};
 use crate::write::{put_word, write};
 use circuit::{Cell, Op, Piece};
-use signal_words::{SigReader, one_piece, one_word, sig_field, sig_width, sig_word, word_of};
+use signal_words::{SigReader, one_piece, sig_field, sig_width, sig_word, whole_value, word_of};
 use sim_base::Bits;
 
 /// Writes the bits of a signal from its bit `at` on.
@@ -36,8 +37,11 @@ fn copy_whole(sig: &[Piece], nets: &[Bits], into: &mut Bits) -> bool
     requires width { sig_width sig.now ≡ into.old.width }
     ensures { IsWritten (sig_number (digits_in nets.now) sig.now % 2 ^ into.old.width) into.old into.new result }
 {
-    match one_word(sig, nets) {
-        Some(word) => put_word(into, word.number),
+    match whole_value(sig, nets) {
+        Some(value) => {
+            let _ = value.width();
+            write_digitwise(Op::Pos, value, value, into)
+        }
         None => copy_pieces(sig, nets, into),
     }
 }
@@ -76,8 +80,8 @@ fn is_one(sig: &[Piece], nets: &[Bits]) -> bool
     requires narrow { sig_width sig.now ≡ 1 }
     ensures { result ≡ (sig_number (digits_in nets.now) sig.now == 1) }
 {
-    match one_word(sig, nets) {
-        Some(word) => word.number == 1,
+    match whole_value(sig, nets) {
+        Some(value) => only_word(value) == 1,
         None => is_one_of_pieces(sig, nets),
     }
 }

@@ -9,9 +9,10 @@ ghost use Rattle.cell_wide.specs.Words.{IsWritten};
 use crate::bitwise::operands;
 use crate::count::is_odd;
 use crate::operand::is_zero;
+use crate::values::put_only_word;
 use crate::word::{is_signed, operand_word};
 use crate::words::{Bitwise, Chain, Fill, Pair, ones as all_ones};
-use crate::write::{put_word, same, write};
+use crate::write::{same, write};
 use circuit::{Cell, Op, Piece};
 use signal_words::{SigReader, SigWord, sig_width};
 use sim_base::Bits;
@@ -208,11 +209,11 @@ pub fn truth(
 
 /// Makes the number of a value 1 or 0, as far as it has bits, and tells whether that changed it.
 #[inline(always)]
-fn put_truth(into: &mut Bits, ones: bool) -> bool
+pub fn put_truth(into: &mut Bits, ones: bool) -> bool
     ensures { IsWritten (modulo into.old.width (truth ones)) into.old into.new result }
 {
     if into.width() == 1 {
-        return put_word(into, u64::from(ones));
+        return put_only_word(into, u64::from(ones));
     }
     put_truth_wide(into, ones)
 }

@@ -1,11 +1,16 @@
-use Rattle.std.proofs.Common.{subst}
-use Rattle.std.specs.Prelude.{IfSome}
-use Rattle.signal_words.specs.Values.{IsWordOf}
-use Rattle.cell_wide.proofs.Copied.{word_copied}
+use Rattle.std.proofs.Common.{◌≡◌, ◌%◌, ◌^◌, ◌<◌, sym, ◌∙◌, ap, subst}
+use Rattle.std.proofs.Math.Nat.{mod-eq_of_lt}
+use Rattle.sim_base.specs.BitValue.{BitValue}
+use Rattle.circuit.specs.Signal.{sig_number}
+use Rattle.signal_words.specs.Values.{digits_in}
+use Rattle.cell_wide.proofs.Outputs.{same_written}
 use Rattle.cell_wide.proofs.select.copy_whole.Goals as goal
 
 pub returns-in-Some : goal.returns-in-Some
 returns-in-Some c =
-    let word = c.in-Some.word in
-    word_copied c.args.nets.now c.args.sig.now word.width word.number (subst (λ o. IfSome o (λ w. IsWordOf c.args.nets.now c.args.sig.now w.width w.number)) c.in-Some.is c.one_word.ensures)
-    c.args.into.now c.put_word.new.into c.put_word.result c.requires.width c.put_word.ensures
+    let w = c.args.into.now.width in
+    let value = c.in-Some.value.now in
+    let number : value.number ≡ sig_number (digits_in c.args.nets.now) c.args.sig.now = ap (λ (v : BitValue). v.number) c.in-Some.ensures in
+    let width : value.width ≡ w = ap (λ (v : BitValue). v.width) c.in-Some.ensures ∙ c.requires.width in
+    let lt : value.number < 2 ^ w = subst (λ k. value.number < 2 ^ k) width c.width.ensures.below in
+    same_written value.number (sig_number (digits_in c.args.nets.now) c.args.sig.now % 2 ^ w) c.args.into.now c.write_digitwise.new.into c.write_digitwise.result (sym (mod-eq_of_lt lt) ∙ ap (λ n. n % 2 ^ w) number) c.write_digitwise.ensures

@@ -1,0 +1,127 @@
+//! Values of one width, digit by digit.
+ghost use Rattle.std.specs.Prelude.{◌≡◌, ◌==◌, ◌<◌, ◌≤◌, ◌^◌};
+ghost use Rattle.cell_wide.specs.Words.{IsWritten, digitwise};
+
+use crate::words::ones;
+use circuit::Op;
+use sim_base::Bits;
+
+/// What a type of cell makes of `n` digits of its two operands. A type that is none of these keeps the first.
+#[inline(always)]
+fn digitwise(op: Op, n: u32, one: u64, other: u64) -> u64
+    requires small { n ≤ 64 }
+    requires one { one < 2 ^ n }
+    requires other { other < 2 ^ n }
+    ensures value { result ≡ digitwise op n one other }
+    ensures below { result < 2 ^ n }
+{
+    match op {
+        Op::And => one & other,
+        Op::Or => one | other,
+        Op::Xor => one ^ other,
+        Op::Xnor => ones(n) - (one ^ other),
+        Op::Not => ones(n) - one,
+        _ => one,
+    }
+}
+
+/// Writes what a type of cell makes of two values, word by word, and tells whether that changed it. The last word
+/// may have fewer digits.
+#[inline(always)]
+fn write_words(op: Op, one: &Bits, other: &Bits, into: &mut Bits) -> bool
+    requires one { one.now.width ≡ into.old.width }
+    requires other { other.now.width ≡ into.old.width }
+    ensures { IsWritten (digitwise op into.old.width one.now.number other.now.number) into.old into.new result }
+{
+    let _ = (one.width(), other.width());
+    let width = into.width();
+    let whole = (width / 64) as usize;
+    let (left, right) = (one.words(), other.words());
+    let mut changed = 0u64;
+    let mut place = 0usize;
+    while place < whole {
+        let word = digitwise(op, 64, left[place], right[place]);
+        changed |= into.words()[place] ^ word;
+        into.put_word(place, word);
+        place += 1;
+    }
+    let rest = width % 64;
+    if rest > 0 {
+        let word = digitwise(op, rest, left[whole], right[whole]);
+        changed |= into.words()[whole] ^ word;
+        into.put_word(whole, word);
+    }
+    changed != 0
+}
+
+/// The same for values of many words, with a loop of its own for each type of cell.
+#[inline(never)]
+fn write_many(op: Op, one: &Bits, other: &Bits, into: &mut Bits) -> bool
+    requires one { one.now.width ≡ into.old.width }
+    requires other { other.now.width ≡ into.old.width }
+    ensures { IsWritten (digitwise op into.old.width one.now.number other.now.number) into.old into.new result }
+{
+    match op {
+        Op::And => write_words(Op::And, one, other, into),
+        Op::Or => write_words(Op::Or, one, other, into),
+        Op::Xor => write_words(Op::Xor, one, other, into),
+        Op::Xnor => write_words(Op::Xnor, one, other, into),
+        Op::Not => write_words(Op::Not, one, other, into),
+        _ => write_words(op, one, other, into),
+    }
+}
+
+/// The number of a value of 1 to 64 bits. It has one word, which is read without a test.
+#[inline(always)]
+pub fn only_word(value: &Bits) -> u64
+    requires some { 0 < value.now.width }
+    requires small { value.now.width ≤ 64 }
+    ensures value { result ≡ value.now.number }
+    ensures below { result < 2 ^ value.now.width }
+{
+    let _ = value.width();
+    value.words()[0]
+}
+
+/// Makes a word the number of a value of 1 to 64 bits, and tells whether that changed it.
+#[inline(always)]
+pub fn put_only_word(into: &mut Bits, word: u64) -> bool
+    requires some { 0 < into.old.width }
+    requires small { into.old.width ≤ 64 }
+    requires below { word < 2 ^ into.old.width }
+    ensures { IsWritten word into.old into.new result }
+{
+    let changed = only_word(into) != word;
+    if changed {
+        into.put(word);
+    }
+    changed
+}
+
+/// Writes what a type of cell makes of two values of the output's width, and tells whether that changed it.
+#[inline(always)]
+pub fn write_digitwise(op: Op, one: &Bits, other: &Bits, into: &mut Bits) -> bool
+    requires one { one.now.width ≡ into.old.width }
+    requires other { other.now.width ≡ into.old.width }
+    ensures { IsWritten (digitwise op into.old.width one.now.number other.now.number) into.old into.new result }
+{
+    let width = into.width();
+    if width == 0 || width > 64 {
+        return write_many(op, one, other, into);
+    }
+    let word = digitwise(op, width, only_word(one), only_word(other));
+    put_only_word(into, word)
+}
+
+/// Whether two values of one width are the same.
+#[inline(always)]
+pub fn are_same(one: &Bits, other: &Bits) -> bool
+    requires { one.now.width ≡ other.now.width }
+    ensures { result ≡ (one.now.number == other.now.number) }
+{
+    let width = one.width();
+    if width == 0 || width > 64 {
+        return one.same(other);
+    }
+    only_word(one) == only_word(other)
+}
