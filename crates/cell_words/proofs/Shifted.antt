@@ -15,7 +15,7 @@ pub is_itself : (m n : ℕ) → Is m (pos n) n
 is_itself m n = (0, 0, omega arith)
 
 -- all digits beyond the width are cut away
-none_left : (w S n : ℕ) → w ≤ n → S * 2 ^ n % 2 ^ w ≡ 0
+pub none_left : (w S n : ℕ) → w ≤ n → S * 2 ^ n % 2 ^ w ≡ 0
 none_left w S n le =
     let s : n - w + w ≡ n = omega arith in
     let p : S * 2 ^ n ≡ S * 2 ^ (n - w) * 2 ^ w = ap (λ k. S * 2 ^ k) (sym s) ∙ ap (λ t. S * t) (pow-add 2 (n - w) w) ∙ sym (mul_assoc S (2 ^ (n - w)) (2 ^ w)) in

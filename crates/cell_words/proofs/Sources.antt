@@ -3,19 +3,19 @@ use Rattle.std.proofs.Common.{◌≡◌, ℕ, suc, ◌+◌, ◌-◌, ◌*◌, �
 use Rattle.std.proofs.lemmas.Bool.{cond-true, cond-false}
 use Rattle.std.specs.Prelude.{ℤ, pos, negsuc, ◌-ℤ◌, ◌*ℤ◌, int_lt}
 use Rattle.std.proofs.lemmas.Nat.{and_mask, pow_pos, pow-add}
-use Rattle.std.proofs.Math.Nat.{mod-eq_of_lt, pow-le-pow_right, zero-mul, zero-mod}
+use Rattle.std.proofs.Math.Nat.{div-le_self, mod-eq_of_lt, pow-le-pow_right, zero-mul, zero-mod}
 use Rattle.std.proofs.Math.Pow.{mod-mod-pow}
 use borrow.Author.Differences.{up, down}
 use Rattle.std.proofs.lemmas.Int.{ints}
 use Rattle.sim_base.specs.BitValue.{BitValue}
-use Rattle.circuit.specs.Output.{modulo, shifted, formula, first, widened, Inputs}
+use Rattle.circuit.specs.Output.{modulo, shifted, floor_by, formula, first, operand, widened, Inputs}
 use Rattle.circuit.specs.declared.cell.Op.{Op}
 use Rattle.circuit.specs.declared.cell.Op.TheVariants as op
 use Rattle.cell_words.specs.Wholes.{magnitude}
 use Rattle.cell_words.specs.Kinds.{is_shift}
-use Rattle.cell_words.specs.Shifts.{extended, farthest, source, places, is_to_the_left, is_negative}
+use Rattle.cell_words.specs.Shifts.{extended, farthest, source, places, is_to_the_left, is_negative, is_below_zero, IsPlain}
 use Rattle.cell_words.proofs.Modulo.{modulo_is, is_product, is_lower, modulo_of}
-use Rattle.cell_words.proofs.Shifted.{none_right, is_itself, extended_is, extended_not, extended_below, moved_left, moved_right, moved_floor}
+use Rattle.cell_words.proofs.Shifted.{none_left, none_right, is_itself, extended_is, extended_not, extended_below, moved_left, moved_right, moved_floor}
 
 first_unsigned : (i : Inputs) → is_negative i ≡ false → first i ≡ pos i.a.number
 first_unsigned i h = cond-false (is_negative i) (pos i.a.number -ℤ pos (2 ^ i.a.width)) (pos i.a.number) h
@@ -174,3 +174,45 @@ word_moved ones right left w L R a le narrow l r =
     ∙ and_mask (extended ones a / 2 ^ right * 2 ^ left % 2 ^ 128) w
     ∙ ap (λ k. extended ones a / 2 ^ right * 2 ^ left % 2 ^ k % 2 ^ w) (sym s)
     ∙ mod-mod-pow (extended ones a / 2 ^ right * 2 ^ left) (128 - w) w
+
+-- ---- operands that are not below 0
+
+plain_places : (i : Inputs) (number by : ℕ) → IsPlain i number by → operand i.b_signed i.b.width i.b.number ≡ pos by
+plain_places i number by p = cond-false (is_below_zero i.b_signed i.b.width i.b.number) (pos i.b.number -ℤ pos (2 ^ i.b.width)) (pos i.b.number) p.by_positive ∙ ap pos p.by_is
+
+plain_first : (i : Inputs) (number by : ℕ) → IsPlain i number by → first i ≡ pos number
+plain_first i number by p = first_unsigned i p.positive ∙ ap pos p.number_is
+
+plain_widened : (i : Inputs) (number by : ℕ) → IsPlain i number by → widened i ≡ number
+plain_widened i number by p = sym (none_in_front (max i.a.width i.width) i p.below (omega arith) p.positive) ∙ extended_none i.a ∙ p.number_is
+
+cut : (number by : ℕ) → number < 2 ^ 64 → number / 2 ^ by ≡ modulo 64 (pos (number / 2 ^ by))
+cut number by lt = sym (mod-eq_of_lt (below (number / 2 ^ by) (div-le_self number (2 ^ by))))
+  where
+    below : (q : ℕ) → q ≤ number → q < 2 ^ 64
+    below q le = omega (arith, le, lt)
+
+-- the digits that a shift leaves of them
+pub plain_right : (o : Op) (i : Inputs) (number by : ℕ) → is_shift o ≡ true → (o ≡ op.Shl → ⊥) → (o ≡ op.Sshl → ⊥) → IsPlain i number by → number / 2 ^ by ≡ modulo 64 (formula o i)
+plain_right op.Shl i number by k l m p = absurd (l refl)
+plain_right op.Sshl i number by k l m p = absurd (m refl)
+plain_right op.Shr i number by k l m p = cut number by p.word ∙ ap (λ n. modulo 64 (pos (n / 2 ^ by))) (sym (plain_widened i number by p)) ∙ ap (λ n. modulo 64 (pos (widened i / 2 ^ n))) (sym p.by_is)
+plain_right op.Sshr i number by k l m p = cut number by p.word ∙ ap (λ n. modulo 64 (pos (number / 2 ^ n))) (sym p.by_is) ∙ ap (λ z. modulo 64 (floor_by z (2 ^ i.b.number))) (sym (plain_first i number by p))
+plain_right op.Shift i number by k l m p = cut number by p.word ∙ ap (λ n. modulo 64 (pos (n / 2 ^ by))) (sym (plain_widened i number by p)) ∙ ap (λ z. modulo 64 (shifted (widened i) z)) (sym (plain_places i number by p))
+plain_right op.Shiftx i number by k l m p = cut number by p.word ∙ ap (λ n. modulo 64 (pos (n / 2 ^ by))) (sym p.number_is) ∙ ap (λ z. modulo 64 (shifted i.a.number z)) (sym (plain_places i number by p))
+plain_right _ i number by k l m p = absurd (cc)
+
+plain_left : (i : Inputs) (number by : ℕ) → IsPlain i number by → number * 2 ^ by % 2 ^ 64 ≡ modulo 64 (first i *ℤ pos (2 ^ i.b.number))
+plain_left i number by p =
+    modulo_of 64 (pos number *ℤ pos (2 ^ by)) (number * 2 ^ by) (is_product (2 ^ 64) (pos number) (pos (2 ^ by)) number (2 ^ by) (is_itself (2 ^ 64) number) (is_itself (2 ^ 64) (2 ^ by)))
+    ∙ ap (λ z. modulo 64 (z *ℤ pos (2 ^ by))) (sym (plain_first i number by p)) ∙ ap (λ n. modulo 64 (first i *ℤ pos (2 ^ n))) (sym p.by_is)
+
+-- and those that all have gone
+pub plain_far : (o : Op) (i : Inputs) (number by : ℕ) → is_shift o ≡ true → 63 < by → IsPlain i number by → 0 ≡ modulo 64 (formula o i)
+plain_far op.Shl i number by k far p = sym (none_left 64 number by (omega (arith, far))) ∙ plain_left i number by p
+plain_far op.Sshl i number by k far p = sym (none_left 64 number by (omega (arith, far))) ∙ plain_left i number by p
+plain_far op.Shr i number by k far p = sym (none_right 64 number by p.word (omega (arith, far))) ∙ plain_right op.Shr i number by k (λ e. cc e) (λ e. cc e) p
+plain_far op.Sshr i number by k far p = sym (none_right 64 number by p.word (omega (arith, far))) ∙ plain_right op.Sshr i number by k (λ e. cc e) (λ e. cc e) p
+plain_far op.Shift i number by k far p = sym (none_right 64 number by p.word (omega (arith, far))) ∙ plain_right op.Shift i number by k (λ e. cc e) (λ e. cc e) p
+plain_far op.Shiftx i number by k far p = sym (none_right 64 number by p.word (omega (arith, far))) ∙ plain_right op.Shiftx i number by k (λ e. cc e) (λ e. cc e) p
+plain_far _ i number by k far p = absurd (cc)

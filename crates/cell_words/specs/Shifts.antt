@@ -64,3 +64,12 @@ pub record HasWidths (i : Inputs) (width a_width : ℕ) (negative : Bool) : Type
   pub a_width_is : i.a.width ≡ a_width
   pub below : i.a.number < 2 ^ i.a.width
   pub negative_is : is_negative i ≡ negative
+
+-- neither operand of a shift cell is below 0: they are these numbers
+pub record IsPlain (i : Inputs) (number by : ℕ) : Type 0 where
+  pub number_is : i.a.number ≡ number
+  pub below : i.a.number < 2 ^ i.a.width
+  pub word : number < 2 ^ 64
+  pub positive : is_negative i ≡ false
+  pub by_is : i.b.number ≡ by
+  pub by_positive : is_below_zero i.b_signed i.b.width i.b.number ≡ false

@@ -1,14 +1,17 @@
 //! Arithmetic cells and comparisons, by whole numbers.
-ghost use Rattle.std.specs.Prelude.{◌≡◌, ◌≢◌, ◌<◌, ◌≤◌, ◌%◌, ◌^◌, ℤ, pos, true};
+ghost use Rattle.std.specs.Prelude.{◌≡◌, ◌≢◌, ◌<◌, ◌≤◌, ◌%◌, ◌^◌, ℤ, pos, true, false};
 ghost use Rattle.sim_base.specs.BitValue.{bit_value};
 ghost use Rattle.circuit.specs.Signal.{Digits, sig_value};
 ghost use Rattle.circuit.specs.Output.{Inputs, modulo, formula, truth, output};
 ghost use Rattle.cell_words.specs.Kinds.{is_division, is_comparison, is_binary, is_arithmetic};
 ghost use Rattle.cell_words.specs.Operands.{HasOperands, ReadsPorts};
 
+use crate::narrow::Narrow;
 use crate::port::Port;
 use crate::whole::Whole;
+use crate::write::low_word;
 use circuit::{Cell, Op};
+use signal_words::SigWord;
 
 /// Quotients and remainders; a zero divisor gives 0.
 #[inline(never)]
@@ -70,6 +73,73 @@ fn low_of(cell: &Cell, a: Port, b: Port) -> u128
     let signed = cell.a_signed && cell.b_signed;
     let left = Whole::operand(signed, a.width, a.number);
     of_two(cell.op, &left, &Whole::operand(signed, b.width, b.number))
+}
+
+/// The same apart from the way for words.
+#[inline(never)]
+fn low_of_words(cell: &Cell, a: SigWord, b: SigWord) -> u128
+    requires kind { is_arithmetic cell.now.op ≡ true }
+    requires a_narrow { a.width ≤ 64 }
+    requires a_below { a.number < 2 ^ a.width }
+    requires b_narrow { b.width ≤ 64 }
+    requires b_below { b.number < 2 ^ b.width }
+    ensures { (i : Inputs) → ReadsPorts cell.now (bit_value a.width a.number) (bit_value b.width b.number) i → result ≡ modulo 128 (formula cell.now.op i) }
+{
+    low_of(cell, Port::of(a), Port::of(b))
+}
+
+/// What a cell with two operands of at most 64 digits computes, modulo 2^64. It does not divide.
+#[inline(always)]
+fn of_narrow(op: Op, a: &Narrow, b: &Narrow) -> u64
+    requires kind { is_binary op ≡ true }
+    requires plain { is_division op ≡ false }
+    ensures { (i : Inputs) → HasOperands i a.now b.now → result ≡ modulo 64 (formula op i) }
+{
+    match op {
+        Op::Add => a.sum(b),
+        Op::Sub => a.difference(b),
+        Op::Mul => a.product(b),
+        Op::Lt => u64::from(a.is_below(b)),
+        Op::Le => u64::from(!b.is_below(a)),
+        Op::Ge => u64::from(!a.is_below(b)),
+        _ => u64::from(b.is_below(a)),
+    }
+}
+
+/// What an arithmetic cell computes from words, modulo 2^64.
+#[inline(always)]
+fn low_of_cell(cell: &Cell, a: SigWord, b: SigWord) -> u64
+    requires kind { is_arithmetic cell.now.op ≡ true }
+    requires a_narrow { a.width ≤ 64 }
+    requires a_below { a.number < 2 ^ a.width }
+    requires b_narrow { b.width ≤ 64 }
+    requires b_below { b.number < 2 ^ b.width }
+    ensures { (i : Inputs) → ReadsPorts cell.now (bit_value a.width a.number) (bit_value b.width b.number) i → result ≡ modulo 64 (formula cell.now.op i) }
+{
+    match cell.op {
+        Op::Neg => Narrow::operand(cell.a_signed, a).negated(),
+        Op::Div | Op::Mod | Op::DivFloor | Op::ModFloor => low_word(low_of_words(cell, a, b)),
+        _ => {
+            let signed = cell.a_signed && cell.b_signed;
+            let left = Narrow::operand(signed, a);
+            of_narrow(cell.op, &left, &Narrow::operand(signed, b))
+        }
+    }
+}
+
+/// A number whose lowest digits, at most 64, are those that an arithmetic cell gives for these words of its ports.
+#[inline(always)]
+pub fn word_of_cell(cell: &Cell, a: SigWord, b: SigWord) -> u64
+    requires kind { is_arithmetic cell.now.op ≡ true }
+    requires narrow { cell.now.width ≤ 64 }
+    requires a_narrow { a.width ≤ 64 }
+    requires a_below { a.number < 2 ^ a.width }
+    requires b_narrow { b.width ≤ 64 }
+    requires b_below { b.number < 2 ^ b.width }
+    ensures { (digits : Digits) → sig_value digits cell.now.a ≡ bit_value a.width a.number → sig_value digits cell.now.b ≡ bit_value b.width b.number
+        → result % 2 ^ cell.now.width ≡ output digits cell.now }
+{
+    low_of_cell(cell, a, b)
 }
 
 /// A number whose lowest digits are those that an arithmetic cell gives for these values of its ports.

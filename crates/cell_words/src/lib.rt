@@ -4,6 +4,7 @@
 
 mod amount;
 mod arithmetic;
+mod narrow;
 mod outputs;
 mod port;
 mod shift;

@@ -1,5 +1,5 @@
 //! Cells evaluated over a store.
-ghost use Rattle.std.specs.Prelude.{◌≡◌, ◌+◌, ◌<◌, ◌≤◌, ◌^◌, ◌==◌, not, true, slice_set, slice_index_or};
+ghost use Rattle.std.specs.Prelude.{◌≡◌, ◌+◌, ◌<◌, ◌≤◌, ◌^◌, ◌==◌, not, true, false, slice_set, slice_index_or};
 ghost use Rattle.sim_base.specs.BitValue.{bit_value, zeros};
 ghost use Rattle.circuit.specs.Output.{Inputs, inputs_of, operand, output};
 ghost use Rattle.circuit.specs.Signal.{sig_number, sig_value, sig_width};
@@ -7,14 +7,15 @@ ghost use Rattle.circuit.specs.Valid.{widths_fit, widths_of};
 ghost use Rattle.signal_words.specs.Values.{digits_in, AreInside, IsSignalOf, IsWordOf};
 ghost use Rattle.signal_words.specs.Stores.{IsCellOf};
 ghost use Rattle.cell_words.specs.Kinds.{is_arithmetic, is_arithmetic_or_shift, is_shift};
-ghost use Rattle.cell_words.specs.Shifts.{places};
+ghost use Rattle.cell_words.specs.Shifts.{is_below_zero, places};
 
 use crate::amount::{amount_of, is_below_zero};
-use crate::arithmetic::result_of;
+use crate::arithmetic::{result_of, word_of_cell};
+use crate::narrow::is_below_zero as is_word_below_zero;
 use crate::port::{Port, port_of};
-use crate::shift::{moved_word, shift_of};
+use crate::shift::{moved_word, shift_of, shifted_plainly};
 use crate::source::{Source, fill};
-use crate::write::put_low;
+use crate::write::{put_low, put_low_word};
 use circuit::{Cell, Op, Store};
 use signal_words::{SigWord, one_word, sig_width, word_of};
 use sim_base::{Bits, Steps};
@@ -58,6 +59,22 @@ fn arithmetic_of_pieces(cell: &Cell, nets: &[Bits], into: &mut Bits) -> bool
     computed(cell, nets, a, b, into)
 }
 
+/// Arithmetic and comparisons in words: ports and output have at most 64 bits.
+#[inline(always)]
+fn computed_word(cell: &Cell, nets: &[Bits], a: SigWord, b: SigWord, into: &mut Bits) -> bool
+    requires kind { is_arithmetic cell.now.op ≡ true }
+    requires width { cell.now.width ≤ 64 }
+    requires a { IsWordOf nets.now cell.now.a a.width a.number }
+    requires b { IsWordOf nets.now cell.now.b b.width b.number }
+    requires into { into.old.width ≡ cell.now.width }
+    ensures value { into.new ≡ bit_value cell.now.width (output (digits_in nets.now) cell.now) }
+    ensures changed { result ≡ not (into.old.number == output (digits_in nets.now) cell.now) }
+{
+    let _ = nets;
+    let number = word_of_cell(cell, a, b);
+    put_low_word(into, number)
+}
+
 /// The same, and where each port is one piece of at most 64 bits without a loop.
 #[inline(always)]
 fn arithmetic(cell: &Cell, nets: &[Bits], into: &mut Bits) -> bool
@@ -73,7 +90,9 @@ fn arithmetic(cell: &Cell, nets: &[Bits], into: &mut Bits) -> bool
 {
     if let Some(a) = one_word(cell.a.as_slice(), nets) {
         if let Some(b) = one_word(cell.b.as_slice(), nets) {
-            return computed(cell, nets, Port::of(a), Port::of(b), into);
+            if cell.width <= 64 {
+                return computed_word(cell, nets, a, b, into);
+            }
         }
     }
     arithmetic_of_pieces(cell, nets, into)
@@ -158,6 +177,24 @@ fn shifted_pieces(cell: &Cell, nets: &[Bits], into: &mut Bits) -> bool
     }
 }
 
+/// A shift in words, where neither operand is below 0.
+#[inline(always)]
+fn shifted_plain(cell: &Cell, nets: &[Bits], a: SigWord, b: SigWord, into: &mut Bits) -> bool
+    requires kind { is_shift cell.now.op ≡ true }
+    requires width { cell.now.width ≤ 64 }
+    requires a { IsWordOf nets.now cell.now.a a.width a.number }
+    requires b { IsWordOf nets.now cell.now.b b.width b.number }
+    requires a_positive { is_below_zero cell.now.a_signed a.width a.number ≡ false }
+    requires b_positive { is_below_zero cell.now.b_signed b.width b.number ≡ false }
+    requires into { into.old.width ≡ cell.now.width }
+    ensures value { into.new ≡ bit_value cell.now.width (output (digits_in nets.now) cell.now) }
+    ensures changed { result ≡ not (into.old.number == output (digits_in nets.now) cell.now) }
+{
+    let _ = nets;
+    let number = shifted_plainly(cell.op, a.number, b.number);
+    put_low_word(into, number)
+}
+
 #[inline(always)]
 fn shifted(cell: &Cell, nets: &[Bits], into: &mut Bits) -> bool
     requires kind { is_shift cell.now.op ≡ true }
@@ -168,10 +205,16 @@ fn shifted(cell: &Cell, nets: &[Bits], into: &mut Bits) -> bool
     ensures value { into.new ≡ bit_value cell.now.width (output (digits_in nets.now) cell.now) }
     ensures changed { result ≡ not (into.old.number == output (digits_in nets.now) cell.now) }
 {
-    match one_word(cell.a.as_slice(), nets) {
-        Some(a) if cell.width <= 64 => shifted_word(cell, nets, a, into),
-        _ => shifted_pieces(cell, nets, into),
+    if let Some(a) = one_word(cell.a.as_slice(), nets) {
+        if let Some(b) = one_word(cell.b.as_slice(), nets) {
+            let below = is_word_below_zero(a, cell.a_signed)
+                || is_word_below_zero(b, cell.b_signed);
+            if cell.width <= 64 && !below {
+                return shifted_plain(cell, nets, a, b, into);
+            }
+        }
     }
+    shifted_pieces(cell, nets, into)
 }
 
 fn written(cell: &Cell, nets: &[Bits], into: &mut Bits) -> bool

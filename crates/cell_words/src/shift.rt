@@ -3,7 +3,7 @@ ghost use Rattle.std.specs.Prelude.{◌≡◌, ◌<◌, ◌≤◌, ◌^◌, ◌%
 ghost use Rattle.sim_base.specs.BitValue.{bit_value};
 ghost use Rattle.circuit.specs.Output.{Inputs, modulo, formula};
 ghost use Rattle.cell_words.specs.Kinds.{is_shift};
-ghost use Rattle.cell_words.specs.Shifts.{extended, source, moved, places, is_to_the_left, IsAmount, HasWidths};
+ghost use Rattle.cell_words.specs.Shifts.{extended, source, moved, places, is_to_the_left, IsAmount, HasWidths, IsPlain};
 
 use crate::port::Port;
 use crate::whole::low_ones;
@@ -97,4 +97,19 @@ pub fn moved_word(shift: Shift, a: Port, width: u32) -> u128
     }
     let extended = (low_ones(shift.ones) << a.width) + a.number;
     ((extended >> shift.right) << shift.left) & low_ones(width)
+}
+
+/// The digits of a word moved by so many places, where neither stands for a number below 0.
+#[inline(always)]
+pub fn shifted_plainly(op: Op, number: u64, by: u64) -> u64
+    requires { is_shift op ≡ true }
+    ensures { (i : Inputs) → IsPlain i number by → result ≡ modulo 64 (formula op i) }
+{
+    if by > 63 {
+        return 0;
+    }
+    match op {
+        Op::Shl | Op::Sshl => number << by,
+        _ => number >> by,
+    }
 }

@@ -60,6 +60,18 @@ fn put_word(into: &mut Bits, word: u64) -> bool
     changed
 }
 
+/// Writes as many of the lowest digits of `number` as a value of at most 64 bits has, and answers whether that
+/// changed it.
+#[inline(always)]
+pub fn put_low_word(into: &mut Bits, number: u64) -> bool
+    requires { into.old.width ≤ 64 }
+    ensures value { into.new ≡ bit_value into.old.width (number % 2 ^ into.old.width) }
+    ensures changed { result ≡ not (into.old.number == number % 2 ^ into.old.width) }
+{
+    let word = number & ones_word(into.width());
+    put_word(into, word)
+}
+
 /// Writes as many of the lowest digits of `number` as a value of at most 128 bits has, and answers whether
 /// that changed it.
 #[inline(always)]
