@@ -1,5 +1,5 @@
 -- Values of one width, written word by word.
-use Rattle.std.proofs.Common.{◌≡◌, ℕ, ◌+◌, ◌-◌, ◌*◌, ◌/◌, ◌%◌, ◌^◌, ◌<◌, ◌≤◌, List, get_or, refl, sym, ◌∙◌, ap, subst, arith, not, bit_or, bit_xor, lit<, inl, inr}
+use Rattle.std.proofs.Common.{◌≡◌, ℕ, ◌+◌, ◌-◌, ◌*◌, ◌/◌, ◌%◌, ◌^◌, ◌<◌, ◌≤◌, List, get_or, refl, sym, ◌∙◌, ap, subst, arith, bit_or, bit_xor, lit<, inl, inr}
 use Rattle.std.specs.Prelude.{◌==◌, slice_index_or}
 use lib.Bits.{and_lt}
 use lib.Pow.{lt_of_le_ones}
@@ -16,7 +16,7 @@ use Rattle.sim_base.proofs.Words.{bit_words}
 use Rattle.sim_base.proofs.Field.{bit_at_mod, bit_at_shr}
 use Rattle.circuit.specs.declared.cell.Op.{Op}
 use Rattle.circuit.specs.declared.cell.Op.TheVariants as op
-use Rattle.cell_wide.specs.Words.{IsWritten, digitwise}
+use Rattle.cell_wide.specs.Words.{digitwise}
 use Rattle.cell_wide.proofs.Digits.{complement}
 use Rattle.cell_wide.proofs.Written.{field_put}
 
@@ -51,82 +51,88 @@ difference_none a b e = same_from_bits (bit_xor a b) 0 (λ j.
     let y : (bit_at a j + bit_at b j) % 2 ≡ 0 = omega (arith, x) in
     bit_at_xor a b j ∙ y ∙ sym (bit_at-zero j))
 
--- ---- writing
+-- ---- comparing
 
--- the words below this place are those of the number, the others are as they were, and `changed` has the digits that differed
-pub record IsReplacing (number : ℕ) (old new : BitValue) (place changed : ℕ) : Type 0 where
-  pub same_width : new.width ≡ old.width
-  pub below : new.number ≡ old.number / 2 ^ (64 * place) * 2 ^ (64 * place) + number % 2 ^ (64 * place)
-  pub unchanged : changed ≡ 0 → old.number % 2 ^ (64 * place) ≡ number % 2 ^ (64 * place)
-  pub same : old.number % 2 ^ (64 * place) ≡ number % 2 ^ (64 * place) → changed ≡ 0
+-- `changed` has the digits in which the words of two numbers below this place differ
+pub record IsDiffering (number old place changed : ℕ) : Type 0 where
+  pub unchanged : changed ≡ 0 → old % 2 ^ (64 * place) ≡ number % 2 ^ (64 * place)
+  pub same : old % 2 ^ (64 * place) ≡ number % 2 ^ (64 * place) → changed ≡ 0
 
-pub none_replaced : (number : ℕ) (old : BitValue) → IsReplacing number old old 0 0
-none_replaced number old = record {
-  same_width = refl;
-  below = omega arith;
-  unchanged = λ e. omega arith;
-  same = λ e. refl;
+pub none_differs : (number old : ℕ) → IsDiffering number old 0 0
+none_differs number old = record { unchanged = λ e. omega arith; same = λ e. refl }
+
+-- the digits below the next place
+split : (x place : ℕ) → x % 2 ^ (64 * (place + 1)) ≡ x / 2 ^ (64 * place) % 2 ^ 64 * 2 ^ (64 * place) + x % 2 ^ (64 * place)
+split x place = let k : 64 * (place + 1) ≡ 64 + 64 * place = omega arith in ap (λ n. x % 2 ^ n) k ∙ mod-pow-add x 64 (64 * place)
+
+low_lt : (x place : ℕ) → x % 2 ^ (64 * place) < 2 ^ (64 * place)
+low_lt x place = mod_below x (2 ^ (64 * place)) (pow_pos (64 * place))
+
+pub one_compared : (number old place changed before word : ℕ) → IsDiffering number old place changed → before ≡ old / 2 ^ (64 * place) % 2 ^ 64 → word ≡ number / 2 ^ (64 * place) % 2 ^ 64 → IsDiffering number old (place + 1) (bit_or changed (bit_xor before word))
+one_compared number old place changed before word i was is = record {
+  unchanged = λ e.
+      let c : changed ≡ 0 = omega (arith, e, le_or_l changed (bit_xor before word)) in
+      let x : bit_xor before word ≡ 0 = omega (arith, e, le_or_r changed (bit_xor before word)) in
+      let same : old / 2 ^ (64 * place) % 2 ^ 64 ≡ number / 2 ^ (64 * place) % 2 ^ 64 = sym was ∙ no_difference before word x ∙ is in
+      split old place ∙ ap (λ y. y * 2 ^ (64 * place) + old % 2 ^ (64 * place)) same ∙ ap (λ y. number / 2 ^ (64 * place) % 2 ^ 64 * 2 ^ (64 * place) + y) (i.unchanged c) ∙ sym (split number place);
+  same = λ e.
+      let both = same_from_place (old / 2 ^ (64 * place) % 2 ^ 64) (old % 2 ^ (64 * place)) (number / 2 ^ (64 * place) % 2 ^ 64) (number % 2 ^ (64 * place)) (2 ^ (64 * place)) (low_lt old place) (low_lt number place) (sym (split old place) ∙ e ∙ split number place) in
+      ap (λ c. bit_or c (bit_xor before word)) (i.same both.1) ∙ or_zero_l (bit_xor before word) ∙ difference_none before word (was ∙ both.0 ∙ sym is);
 }
 
-module _ (number : ℕ) (old new put : BitValue) (place changed before word : ℕ) (i : IsReplacing number old new place changed) (there : before ≡ new.number / 2 ^ (64 * place) % 2 ^ 64) (is : word ≡ number / 2 ^ (64 * place) % 2 ^ 64) where
-  next : 64 * (place + 1) ≡ 64 * place + 64
-  next = omega arith
+pub all_compared : (number old w place changed : ℕ) → IsDiffering number old place changed → old < 2 ^ w → number < 2 ^ w → w ≤ 64 * place → (changed == 0) ≡ (old == number)
+all_compared number old w place changed i below fits le =
+    let p : 2 ^ w ≤ 2 ^ (64 * place) = pow-le-pow_right {n = 2} (lit< tt) {i = w} {j = 64 * place} le in
+    let whole : old % 2 ^ (64 * place) ≡ old = mod-eq_of_lt (omega (arith, below, p)) in
+    let all : number % 2 ^ (64 * place) ≡ number = mod-eq_of_lt (omega (arith, fits, p)) in
+    tests changed old number (λ e. sym whole ∙ i.unchanged e ∙ all) (λ e. i.same (whole ∙ e ∙ sym all))
+  where
+    tests : (c a b : ℕ) → (c ≡ 0 → a ≡ b) → (a ≡ b → c ≡ 0) → (c == 0) ≡ (a == b)
+    tests c a b f g = elim (eqb_tells c 0) [
+      | inl e ↦ e.0 ∙ sym (eq-eqb a b (f e.1))
+      | inr e ↦ e.0 ∙ sym (ne_eqb a b (λ is. e.1 (g is)))
+    ]
 
-  split : (x : ℕ) → x % 2 ^ (64 * (place + 1)) ≡ x / 2 ^ (64 * place) % 2 ^ 64 * 2 ^ (64 * place) + x % 2 ^ (64 * place)
-  split x = let k : 64 * (place + 1) ≡ 64 + 64 * place = omega arith in ap (λ n. x % 2 ^ n) k ∙ mod-pow-add x 64 (64 * place)
+-- ---- writing
 
-  was : before ≡ old.number / 2 ^ (64 * place) % 2 ^ 64
-  was = there ∙ ap (λ x. x / 2 ^ (64 * place) % 2 ^ 64) i.below ∙ ap (λ x. x % 2 ^ 64) (shr_high (old.number / 2 ^ (64 * place)) (64 * place) (number % 2 ^ (64 * place)) (mod_below number (2 ^ (64 * place)) (pow_pos (64 * place))))
+-- the words below this place are those of the number, and the others are as they were
+pub record IsReplacing (number : ℕ) (old new : BitValue) (place : ℕ) : Type 0 where
+  pub same_width : new.width ≡ old.width
+  pub below : new.number ≡ old.number / 2 ^ (64 * place) * 2 ^ (64 * place) + number % 2 ^ (64 * place)
 
-  pub one_replaced : put.width ≡ new.width → ((j : ℕ) → bit_at put.number j ≡ digit_after_copy (64 * place) word 0 64 new.number j) → IsReplacing number old put (place + 1) (bit_or changed (bit_xor before word))
-  one_replaced w bits =
-      let low = number % 2 ^ (64 * place) in
-      let lt : number % 2 ^ (64 * place) < 2 ^ (64 * place) = mod_below number (2 ^ (64 * place)) (pow_pos (64 * place)) in
-      let fits : word < 2 ^ 64 = subst (λ n. n < 2 ^ 64) (sym is) (mod_below (number / 2 ^ (64 * place)) (2 ^ 64) (pow_pos 64)) in
-      let high : new.number / 2 ^ (64 * place + 64) ≡ old.number / 2 ^ (64 * place + 64) =
-      sym (shr-shr new.number (64 * place) 64) ∙ ap (λ x. x / 2 ^ (64 * place) / 2 ^ 64) i.below ∙ ap (λ x. x / 2 ^ 64) (shr_high (old.number / 2 ^ (64 * place)) (64 * place) (number % 2 ^ (64 * place)) lt) ∙ shr-shr old.number (64 * place) 64 in
-      let under : new.number % 2 ^ (64 * place) ≡ number % 2 ^ (64 * place) = ap (λ x. x % 2 ^ (64 * place)) i.below ∙ mod_low (old.number / 2 ^ (64 * place)) (64 * place) (number % 2 ^ (64 * place)) lt in
-      record {
-        same_width = w ∙ i.same_width;
-        below =
-            field_put new.number (64 * place) 64 word put.number fits bits ∙ ap (λ x. x * 2 ^ (64 * place + 64) + (word * 2 ^ (64 * place) + new.number % 2 ^ (64 * place))) high
-            ∙ ap (λ x. old.number / 2 ^ (64 * place + 64) * 2 ^ (64 * place + 64) + (word * 2 ^ (64 * place) + x)) under
-            ∙ ap (λ x. old.number / 2 ^ (64 * place + 64) * 2 ^ (64 * place + 64) + (x * 2 ^ (64 * place) + number % 2 ^ (64 * place))) is
-            ∙ ap (λ x. old.number / 2 ^ (64 * place + 64) * 2 ^ (64 * place + 64) + x) (sym (split number))
-            ∙ ap (λ k. old.number / 2 ^ k * 2 ^ k + number % 2 ^ (64 * (place + 1))) (sym next);
-        unchanged = λ e.
-            let c : changed ≡ 0 = omega (arith, e, le_or_l changed (bit_xor before word)) in
-            let x : bit_xor before word ≡ 0 = omega (arith, e, le_or_r changed (bit_xor before word)) in
-            let same : old.number / 2 ^ (64 * place) % 2 ^ 64 ≡ number / 2 ^ (64 * place) % 2 ^ 64 = sym was ∙ no_difference before word x ∙ is in
-            split old.number ∙ ap (λ y. y * 2 ^ (64 * place) + old.number % 2 ^ (64 * place)) same ∙ ap (λ y. number / 2 ^ (64 * place) % 2 ^ 64 * 2 ^ (64 * place) + y) (i.unchanged c) ∙ sym (split number);
-        same = λ e.
-            let both = same_from_place (old.number / 2 ^ (64 * place) % 2 ^ 64) (old.number % 2 ^ (64 * place)) (number / 2 ^ (64 * place) % 2 ^ 64) (number % 2 ^ (64 * place)) (2 ^ (64 * place)) (mod_below old.number (2 ^ (64 * place)) (pow_pos (64 * place))) lt (sym (split old.number) ∙ e ∙ split number) in
-            ap (λ c. bit_or c (bit_xor before word)) (i.same both.1) ∙ or_zero_l (bit_xor before word) ∙ difference_none before word (was ∙ both.0 ∙ sym is);
-      }
+pub none_replaced : (number : ℕ) (old : BitValue) → IsReplacing number old old 0
+none_replaced number old = record { same_width = refl; below = omega arith }
 
-pub all_replaced : (number : ℕ) (old new : BitValue) (place changed : ℕ) → IsReplacing number old new place changed → old.number < 2 ^ old.width → number < 2 ^ old.width → old.width ≤ 64 * place → IsWritten number old new (not (changed == 0))
-all_replaced number old new place changed i below fits le =
+pub one_replaced : (number : ℕ) (old new put : BitValue) (place word : ℕ) → IsReplacing number old new place → word ≡ number / 2 ^ (64 * place) % 2 ^ 64 → put.width ≡ new.width
+    → ((j : ℕ) → bit_at put.number j ≡ digit_after_copy (64 * place) word 0 64 new.number j) → IsReplacing number old put (place + 1)
+one_replaced number old new put place word i is w bits =
+    let next : 64 * (place + 1) ≡ 64 * place + 64 = omega arith in
+    let fits : word < 2 ^ 64 = subst (λ n. n < 2 ^ 64) (sym is) (mod_below (number / 2 ^ (64 * place)) (2 ^ 64) (pow_pos 64)) in
+    let high : new.number / 2 ^ (64 * place + 64) ≡ old.number / 2 ^ (64 * place + 64) =
+    sym (shr-shr new.number (64 * place) 64) ∙ ap (λ x. x / 2 ^ (64 * place) / 2 ^ 64) i.below ∙ ap (λ x. x / 2 ^ 64) (shr_high (old.number / 2 ^ (64 * place)) (64 * place) (number % 2 ^ (64 * place)) (low_lt number place)) ∙ shr-shr old.number (64 * place) 64 in
+    let under : new.number % 2 ^ (64 * place) ≡ number % 2 ^ (64 * place) = ap (λ x. x % 2 ^ (64 * place)) i.below ∙ mod_low (old.number / 2 ^ (64 * place)) (64 * place) (number % 2 ^ (64 * place)) (low_lt number place) in
+    record {
+      same_width = w ∙ i.same_width;
+      below =
+          field_put new.number (64 * place) 64 word put.number fits bits ∙ ap (λ x. x * 2 ^ (64 * place + 64) + (word * 2 ^ (64 * place) + new.number % 2 ^ (64 * place))) high
+          ∙ ap (λ x. old.number / 2 ^ (64 * place + 64) * 2 ^ (64 * place + 64) + (word * 2 ^ (64 * place) + x)) under
+          ∙ ap (λ x. old.number / 2 ^ (64 * place + 64) * 2 ^ (64 * place + 64) + (x * 2 ^ (64 * place) + number % 2 ^ (64 * place))) is
+          ∙ ap (λ x. old.number / 2 ^ (64 * place + 64) * 2 ^ (64 * place + 64) + x) (sym (split number place))
+          ∙ ap (λ k. old.number / 2 ^ k * 2 ^ k + number % 2 ^ (64 * (place + 1))) (sym next);
+    }
+
+pub all_replaced : (number : ℕ) (old new : BitValue) (place : ℕ) → IsReplacing number old new place → old.number < 2 ^ old.width → number < 2 ^ old.width → old.width ≤ 64 * place → new ≡ bit_value old.width number
+all_replaced number old new place i below fits le =
     let p : 2 ^ old.width ≤ 2 ^ (64 * place) = pow-le-pow_right {n = 2} (lit< tt) {i = old.width} {j = 64 * place} le in
     let none : old.number / 2 ^ (64 * place) ≡ 0 = div-eq_of_lt (omega (arith, below, p)) in
-    let whole : old.number % 2 ^ (64 * place) ≡ old.number = mod-eq_of_lt (omega (arith, below, p)) in
     let all : number % 2 ^ (64 * place) ≡ number = mod-eq_of_lt (omega (arith, fits, p)) in
-    let n : new.number ≡ number = i.below ∙ ap (λ x. x * 2 ^ (64 * place) + number % 2 ^ (64 * place)) none ∙ ap (λ x. 0 * 2 ^ (64 * place) + x) all ∙ plain (2 ^ (64 * place)) in
-    record {
-      value = value_is new old.width number i.same_width n;
-      told = tests changed old.number number (λ e. sym whole ∙ i.unchanged e ∙ all) (λ e. i.same (whole ∙ e ∙ sym all));
-    }
+    value_is new old.width number i.same_width (i.below ∙ ap (λ x. x * 2 ^ (64 * place) + number % 2 ^ (64 * place)) none ∙ ap (λ x. 0 * 2 ^ (64 * place) + x) all ∙ plain (2 ^ (64 * place)))
   where
     plain : (m : ℕ) → 0 * m + number ≡ number
     plain m = omega arith
 
     value_is : (v : BitValue) (w n : ℕ) → v.width ≡ w → v.number ≡ n → v ≡ bit_value w n
     value_is v w n a b = ap (λ x. bit_value x v.number) a ∙ ap (bit_value w) b
-
-    tests : (c a b : ℕ) → (c ≡ 0 → a ≡ b) → (a ≡ b → c ≡ 0) → not (c == 0) ≡ not (a == b)
-    tests c a b f g = elim (eqb_tells c 0) [
-      | inl e ↦ ap not (e.0 ∙ sym (eq-eqb a b (f e.1)))
-      | inr e ↦ ap not (e.0 ∙ sym (ne_eqb a b (λ is. e.1 (g is))))
-    ]
 
 -- ---- digit by digit
 
@@ -203,3 +209,12 @@ last_word o w at n a b x y is small la lb e f =
   where
     under : (x m n : ℕ) → x < m → m ≤ n → x < n
     under x m n lt le = omega (arith, lt, le)
+
+-- a type of cell that keeps the first operand does so as `$pos`
+pub first_kept : (o : Op) (w a b : ℕ) → (o ≡ op.And → ⊥) → (o ≡ op.Or → ⊥) → (o ≡ op.Xor → ⊥) → (o ≡ op.Xnor → ⊥) → (o ≡ op.Not → ⊥) → digitwise op.Pos w a b ≡ digitwise o w a b
+first_kept op.And w a b p q r s t = absurd (p refl)
+first_kept op.Or w a b p q r s t = absurd (q refl)
+first_kept op.Xor w a b p q r s t = absurd (r refl)
+first_kept op.Xnor w a b p q r s t = absurd (s refl)
+first_kept op.Not w a b p q r s t = absurd (t refl)
+first_kept _ w a b p q r s t = refl

@@ -1,5 +1,6 @@
 //! Values of one width, digit by digit.
 ghost use Rattle.std.specs.Prelude.{◌≡◌, ◌==◌, ◌<◌, ◌≤◌, ◌^◌};
+ghost use Rattle.sim_base.specs.BitValue.{bit_value};
 ghost use Rattle.cell_wide.specs.Words.{IsWritten, digitwise};
 
 use crate::words::ones;
@@ -25,33 +26,67 @@ fn digitwise(op: Op, n: u32, one: u64, other: u64) -> u64
     }
 }
 
-/// Writes what a type of cell makes of two values, word by word, and tells whether that changed it. The last word
-/// may have fewer digits.
+/// Whether a value is what a type of cell makes of two others, word by word. The last word may have fewer digits.
 #[inline(always)]
-fn write_words(op: Op, one: &Bits, other: &Bits, into: &mut Bits) -> bool
+fn is_written(op: Op, one: &Bits, other: &Bits, value: &Bits) -> bool
+    requires one { one.now.width ≡ value.now.width }
+    requires other { other.now.width ≡ value.now.width }
+    ensures { result ≡ (value.now.number == digitwise op value.now.width one.now.number other.now.number) }
+{
+    let _ = (one.width(), other.width());
+    let width = value.width();
+    let whole = (width / 64) as usize;
+    let (left, right, old) = (one.words(), other.words(), value.words());
+    let mut changed = 0u64;
+    let mut place = 0usize;
+    while place < whole {
+        changed |= old[place] ^ digitwise(op, 64, left[place], right[place]);
+        place += 1;
+    }
+    let rest = width % 64;
+    if rest > 0 {
+        changed |= old[whole] ^ digitwise(op, rest, left[whole], right[whole]);
+    }
+    changed == 0
+}
+
+/// Makes a value what a type of cell makes of two others, word by word.
+#[inline(always)]
+fn put_words(op: Op, one: &Bits, other: &Bits, into: &mut Bits)
     requires one { one.now.width ≡ into.old.width }
     requires other { other.now.width ≡ into.old.width }
-    ensures { IsWritten (digitwise op into.old.width one.now.number other.now.number) into.old into.new result }
+    ensures { into.new ≡ bit_value into.old.width (digitwise op into.old.width one.now.number other.now.number) }
 {
     let _ = (one.width(), other.width());
     let width = into.width();
     let whole = (width / 64) as usize;
     let (left, right) = (one.words(), other.words());
-    let mut changed = 0u64;
     let mut place = 0usize;
     while place < whole {
         let word = digitwise(op, 64, left[place], right[place]);
-        changed |= into.words()[place] ^ word;
         into.put_word(place, word);
         place += 1;
     }
     let rest = width % 64;
     if rest > 0 {
         let word = digitwise(op, rest, left[whole], right[whole]);
-        changed |= into.words()[whole] ^ word;
         into.put_word(whole, word);
     }
-    changed != 0
+}
+
+/// Writes what a type of cell makes of two values, where that is something else than what is there, and tells
+/// whether it is.
+#[inline(always)]
+fn write_words(op: Op, one: &Bits, other: &Bits, into: &mut Bits) -> bool
+    requires one { one.now.width ≡ into.old.width }
+    requires other { other.now.width ≡ into.old.width }
+    ensures { IsWritten (digitwise op into.old.width one.now.number other.now.number) into.old into.new result }
+{
+    if is_written(op, one, other, into) {
+        return false;
+    }
+    put_words(op, one, other, into);
+    true
 }
 
 /// The same for values of many words, with a loop of its own for each type of cell.
@@ -67,7 +102,7 @@ fn write_many(op: Op, one: &Bits, other: &Bits, into: &mut Bits) -> bool
         Op::Xor => write_words(Op::Xor, one, other, into),
         Op::Xnor => write_words(Op::Xnor, one, other, into),
         Op::Not => write_words(Op::Not, one, other, into),
-        _ => write_words(op, one, other, into),
+        _ => write_words(Op::Pos, one, other, into),
     }
 }
 
@@ -113,6 +148,15 @@ pub fn write_digitwise(op: Op, one: &Bits, other: &Bits, into: &mut Bits) -> boo
     put_only_word(into, word)
 }
 
+/// Whether two values of many words and one width are the same.
+#[inline(never)]
+fn are_same_words(one: &Bits, other: &Bits) -> bool
+    requires { one.now.width ≡ other.now.width }
+    ensures { result ≡ (one.now.number == other.now.number) }
+{
+    is_written(Op::Pos, other, other, one)
+}
+
 /// Whether two values of one width are the same.
 #[inline(always)]
 pub fn are_same(one: &Bits, other: &Bits) -> bool
@@ -121,7 +165,7 @@ pub fn are_same(one: &Bits, other: &Bits) -> bool
 {
     let width = one.width();
     if width == 0 || width > 64 {
-        return one.same(other);
+        return are_same_words(one, other);
     }
     only_word(one) == only_word(other)
 }
