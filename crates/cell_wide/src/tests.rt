@@ -704,3 +704,156 @@ fn worked_rows_and_widths_at_the_edges_of_words(rt: HostRuntime) -> Result<(), F
     assert!(rt; hold::<Brand>(rt.alloc(), rows.as_slice(), Blank::new(1))?);
     Ok(())
 }
+
+#[test]
+fn operands_of_the_width_of_the_output(rt: HostRuntime) -> Result<(), Fail> {
+    let rows: [Row; 15] = [
+        (
+            Op::And,
+            (true, true),
+            (64, 64, 0, 64),
+            (
+                "f2a74de452e6b438",
+                "e513270e269e0d37",
+                "0",
+                "e003050402860430",
+            ),
+        ),
+        (
+            Op::Xnor,
+            (true, true),
+            (64, 64, 0, 64),
+            (
+                "f2a74de452e6b438",
+                "e513270e269e0d37",
+                "0",
+                "e84b95158b8746f0",
+            ),
+        ),
+        (
+            Op::And,
+            (true, true),
+            (65, 65, 0, 65),
+            (
+                "10c5c7fd0a6a3a450",
+                "1892f902bd23f0824",
+                "0",
+                "1080c100082230000",
+            ),
+        ),
+        (
+            Op::Or,
+            (true, true),
+            (65, 65, 0, 65),
+            (
+                "10c5c7fd0a6a3a450",
+                "1892f902bd23f0824",
+                "0",
+                "18d7ffffbf6bfac74",
+            ),
+        ),
+        (
+            Op::Xor,
+            (true, true),
+            (65, 65, 0, 65),
+            (
+                "10c5c7fd0a6a3a450",
+                "1892f902bd23f0824",
+                "0",
+                "8573effb749cac74",
+            ),
+        ),
+        (
+            Op::Xnor,
+            (true, true),
+            (65, 65, 0, 65),
+            (
+                "10c5c7fd0a6a3a450",
+                "1892f902bd23f0824",
+                "0",
+                "17a8c10048b63538b",
+            ),
+        ),
+        (
+            Op::Not,
+            (true, true),
+            (65, 0, 0, 65),
+            ("10c5c7fd0a6a3a450", "0", "0", "f3a3802f595c5baf"),
+        ),
+        (
+            Op::Pos,
+            (true, true),
+            (65, 0, 0, 65),
+            ("10c5c7fd0a6a3a450", "0", "0", "10c5c7fd0a6a3a450"),
+        ),
+        (
+            Op::Mux,
+            (true, true),
+            (65, 65, 1, 65),
+            (
+                "10c5c7fd0a6a3a450",
+                "1892f902bd23f0824",
+                "1",
+                "1892f902bd23f0824",
+            ),
+        ),
+        (
+            Op::Eq,
+            (true, true),
+            (65, 65, 0, 1),
+            ("10c5c7fd0a6a3a450", "10c5c7fd0a6a3a450", "0", "1"),
+        ),
+        (
+            Op::Ne,
+            (true, true),
+            (65, 65, 0, 1),
+            ("10c5c7fd0a6a3a450", "c5c7fd0a6a3a450", "0", "1"),
+        ),
+        (
+            Op::Xnor,
+            (true, true),
+            (128, 128, 0, 128),
+            (
+                "e8e25d940ed904759531985d5d9dc9f8",
+                "9600a35a099950d836f675cc81e74ef5",
+                "0",
+                "811d0131f8bfab525c38126e238578f2",
+            ),
+        ),
+        (
+            Op::Not,
+            (true, true),
+            (128, 0, 0, 128),
+            (
+                "e8e25d940ed904759531985d5d9dc9f8",
+                "0",
+                "0",
+                "171da26bf126fb8a6ace67a2a2623607",
+            ),
+        ),
+        (
+            Op::Mux,
+            (true, true),
+            (128, 128, 1, 128),
+            (
+                "e8e25d940ed904759531985d5d9dc9f8",
+                "9600a35a099950d836f675cc81e74ef5",
+                "1",
+                "9600a35a099950d836f675cc81e74ef5",
+            ),
+        ),
+        (
+            Op::Ne,
+            (true, true),
+            (128, 128, 0, 1),
+            (
+                "e8e25d940ed904759531985d5d9dc9f8",
+                "68e25d940ed904759531985d5d9dc9f8",
+                "0",
+                "1",
+            ),
+        ),
+    ];
+    assert!(rt; hold::<Brand>(rt.alloc(), rows.as_slice(), Blank::new(1))?);
+    Ok(())
+}

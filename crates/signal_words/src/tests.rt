@@ -1,7 +1,8 @@
 ghost use Rattle.std.specs.Prelude.{◌≡◌, IfOk, ◌≤◌};
 
 use crate::{
-    SigReader, SigWord, one_piece, one_word, sig_bit, sig_field, sig_width, sig_word, word_of,
+    SigReader, SigWord, one_piece, one_word, sig_bit, sig_field, sig_width, sig_word, whole_value,
+    word_of,
 };
 use circuit::Piece;
 use sim_base::{Bits, NoMemory};
@@ -178,5 +179,41 @@ fn one_piece_is_read_from_its_least_bit_on(rt: HostRuntime) -> Result<(), Fail> 
         }
         None => assert!(rt; false),
     }
+    Ok(())
+}
+
+/// The width and the lowest 16 bits of a whole value, and a width that no value has where there is none.
+fn told_whole(value: Option<&Bits>) -> (u32, u64) {
+    match value {
+        Some(value) => (value.width(), value.field(0, value.width().min(16))),
+        None => (u32::MAX, 0),
+    }
+}
+
+#[test]
+fn whole_values_are_told_from_parts(rt: HostRuntime) -> Result<(), Fail> {
+    let alloc = rt.alloc();
+    let nets = [value(alloc, 100, 0xA5C3)?];
+    let whole = [Piece::Part {
+        net: 0,
+        at: 0,
+        width: 100,
+    }];
+    assert_eq!(rt; told_whole(whole_value(&whole, &nets)), (100, 0xA5C3));
+    let part = [Piece::Part {
+        net: 0,
+        at: 0,
+        width: 99,
+    }];
+    assert!(rt; whole_value(&part, &nets).is_none());
+    let high = [Piece::Part {
+        net: 0,
+        at: 1,
+        width: 99,
+    }];
+    assert!(rt; whole_value(&high, &nets).is_none());
+    let constant = [Piece::Const(value(alloc, 65, 0xA)?)];
+    assert_eq!(rt; told_whole(whole_value(&constant, &nets)), (65, 0xA));
+    assert!(rt; whole_value(&[], &nets).is_none());
     Ok(())
 }
