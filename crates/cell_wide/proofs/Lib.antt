@@ -7,7 +7,6 @@ pub mod Operands
 pub mod Outputs
 pub mod Truths
 pub mod Selections
-pub mod Tested
 pub mod Narrow
 mod Wordwise
 mod Wholes

@@ -6,8 +6,6 @@ mod cell;
 mod count;
 mod operand;
 mod select;
-#[cfg(test)]
-mod tests;
 mod truth;
 mod values;
 mod whole;

@@ -9,8 +9,6 @@ mod outputs;
 mod port;
 mod shift;
 mod source;
-#[cfg(test)]
-mod tests;
 mod whole;
 mod write;
 

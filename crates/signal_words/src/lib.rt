@@ -6,8 +6,6 @@ mod piece;
 mod reader;
 mod run;
 mod signal;
-#[cfg(test)]
-mod tests;
 mod word;
 
 pub use laws::{law_of_start, law_of_stores};

@@ -3,7 +3,7 @@ ghost use Rattle.circuit.specs.Valid.{widths_fit};
 ghost use Rattle.circuit.specs.declared.netlist.Piece.TheVariants as piece;
 ghost use Rattle.cell_wide.specs.Kinds.{is_wide};
 
-use crate::eval_wide;
+use cell_wide::eval_wide;
 use circuit::{Cell, Op, Piece, Sig, Store, Values};
 use sim_base::{Bits, NoMemory, Steps};
 use sqlite_items::Items;

@@ -1,7 +1,7 @@
 use Rattle.std.proofs.Common.{◌≡◌, ◌≤◌, [], ◌∷◌, ◌++◌, ap, subst, ◌∙◌, true, refl}
 use Rattle.circuit.specs.Valid.{widths_fit}
-use Rattle.cell_wide.proofs.Tested.{constant_cell}
-use Rattle.cell_wide.proofs.tests.evaluated.Goals as goal
+use Rattle.cell_tests.proofs.Tested.{constant_cell}
+use Rattle.cell_tests.proofs.wides.evaluated.Goals as goal
 
 pub eval_wide-changed-requires-clause-fits : goal.eval_wide-changed-requires-clause-fits
 eval_wide-changed-requires-clause-fits g c =

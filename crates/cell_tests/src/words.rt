@@ -3,7 +3,7 @@ ghost use Rattle.circuit.specs.Valid.{widths_fit};
 ghost use Rattle.circuit.specs.declared.netlist.Piece.TheVariants as piece;
 ghost use Rattle.cell_words.specs.Kinds.{is_arithmetic_or_shift};
 
-use crate::{Store, eval};
+use cell_words::{Store, eval};
 use circuit::{Cell, Op, Piece, Sig, Values};
 use sim_base::{Bits, NoMemory, Steps};
 use sqlite_items::Items;

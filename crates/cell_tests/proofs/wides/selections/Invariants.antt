@@ -1,4 +1,4 @@
-use Rattle.cell_wide.proofs.tests.worked_rows_and_widths_at_the_edges_of_words.Given as goal
+use Rattle.cell_tests.proofs.wides.selections.Given as goal
 
 abbrev pub ghosts-hold : goal.ghosts-hold
 ghosts-hold g a = record { name = a.blank.name; parts = a.blank.parts }

@@ -1,10 +1,10 @@
 ghost use Rattle.std.specs.Prelude.{◌≡◌, IfOk, ◌≤◌};
 
-use crate::{
+use circuit::Piece;
+use signal_words::{
     SigReader, SigWord, one_piece, one_word, sig_bit, sig_field, sig_width, sig_word, whole_value,
     word_of,
 };
-use circuit::Piece;
 use sim_base::{Bits, NoMemory};
 use std::alloc::Global;
 use std::test::Fail;
