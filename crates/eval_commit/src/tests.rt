@@ -8,9 +8,13 @@ ghost use Rattle.driver_check.specs.Sources.{AreSources};
 ghost use Rattle.signal_words.specs.Values.{widths};
 ghost use Rattle.eval_commit.specs.Round.{AreInputsOf};
 
+mod memories;
 mod parts;
+mod registers;
+mod samples;
+mod sources;
 
-use crate::tests::parts::one_of_each;
+use crate::tests::sources::one_of_each;
 use crate::{evaluate, law_of_first_state, rooms_of, start_rows, zero_inputs};
 use circuit::{Circuit, Store, Values};
 use driver_check::{Plan, order};
@@ -138,4 +142,27 @@ fn nets_take_what_drives_them(rt: HostRuntime) -> Result<(), Fail> {
     ];
     assert!(rt; hold::<Brand>(rt.alloc(), &rows, Blank::new(1))?);
     Ok(())
+}
+
+#[test]
+fn registers_take_values_at_edges(rt: HostRuntime) -> Result<(), Fail> {
+    registers::check_first_edge(&rt, rt.alloc())?;
+    registers::check_chain(&rt, rt.alloc())?;
+    registers::check_derived_clock(&rt, rt.alloc())
+}
+
+#[test]
+fn a_sample_that_does_not_settle_ends_all(rt: HostRuntime) -> Result<(), Fail> {
+    registers::check_restless(&rt, rt.alloc())
+}
+
+#[test]
+fn clears_and_enables_go_first(rt: HostRuntime) -> Result<(), Fail> {
+    registers::check_resets(&rt, rt.alloc())
+}
+
+#[test]
+fn rows_are_read_and_written_in_a_round(rt: HostRuntime) -> Result<(), Fail> {
+    memories::check_seen(&rt, rt.alloc())?;
+    memories::check_last_word(&rt, rt.alloc())
 }
