@@ -12,8 +12,6 @@ mod round;
 mod settle;
 mod start;
 mod step;
-#[cfg(test)]
-mod tests;
 
 pub use machine::Machine;
 pub use round::evaluate;

@@ -1,8 +1,8 @@
 //! Circuits with a memory, and what they do.
-use crate::Settled;
-use crate::tests::parts::{circuit_of, constant, drive, part, value};
-use crate::tests::samples::{Sample, check};
+use crate::machine::parts::{circuit_of, constant, drive, part, value};
+use crate::machine::samples::{Sample, check};
 use circuit::{By, Circuit, Mem, Piece, ReadPort, Sig, WritePort};
+use eval_commit::Settled;
 use sim_base::NoMemory;
 use sqlite_items::Items;
 use std::alloc::Global;

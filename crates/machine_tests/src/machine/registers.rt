@@ -1,10 +1,10 @@
 //! Circuits with registers, and what they do.
-use crate::Settled;
-use crate::tests::parts::{
+use crate::machine::parts::{
     circuit_of, constant, drive, inverter, part, push_register, register, value,
 };
-use crate::tests::samples::{Sample, check};
+use crate::machine::samples::{Sample, check};
 use circuit::{By, Circuit, Reg, RegKind, Sig};
+use eval_commit::Settled;
 use sim_base::NoMemory;
 use std::alloc::Global;
 use std::process::Abort;

@@ -3,10 +3,10 @@ ghost use Rattle.std.specs.Prelude.{◌≡◌, ◌<◌, IfOk};
 ghost use Rattle.std.specs.Arc.{arc_value};
 ghost use Rattle.eval_commit.specs.Rounds.{IsPlanOf};
 
-use crate::tests::{inputs_of, number_of};
-use crate::{Machine, Settled};
+use crate::machine::{inputs_of, number_of};
 use circuit::Circuit;
 use driver_check::{Plan, order};
+use eval_commit::{Machine, Settled};
 use sim_base::Steps;
 use std::alloc::Global;
 use std::marker::Brand;

@@ -1,7 +1,7 @@
 use Rattle.std.proofs.Common.{◌∙◌, ap}
 use Rattle.circuit.specs.declared.store.Store.{Store}
 use Rattle.signal_words.specs.Values.{digits_in}
-use Rattle.eval_commit.proofs.tests.evaluated.Goals as goal
+use Rattle.machine_tests.proofs.machine.evaluated.Goals as goal
 
 pub evaluate-requires-clause-blank : goal.evaluate-requires-clause-blank
 evaluate-requires-clause-blank g c x none =

@@ -14,10 +14,10 @@ mod registers;
 mod samples;
 mod sources;
 
-use crate::tests::sources::one_of_each;
-use crate::{evaluate, law_of_first_state, rooms_of, start_rows, zero_inputs};
+use crate::machine::sources::one_of_each;
 use circuit::{Circuit, Store, Values};
 use driver_check::{Plan, order};
+use eval_commit::{evaluate, law_of_first_state, rooms_of, start_rows, zero_inputs};
 use signal_words::law_of_start;
 use sim_base::{Bits, NoMemory, Steps};
 use std::alloc::Global;

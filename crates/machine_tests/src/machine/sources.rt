@@ -1,5 +1,5 @@
 //! A circuit with one of each source.
-use crate::tests::parts::{cell, circuit_of, constant, drive, part, register, value};
+use crate::machine::parts::{cell, circuit_of, constant, drive, part, register, value};
 use circuit::{By, Cell, Circuit, Drive, Mem, Op, ReadPort, RegKind};
 use sim_base::{Bits, NoMemory};
 use sqlite_items::Items;

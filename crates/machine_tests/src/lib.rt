@@ -1,0 +1,5 @@
+//! Tests of `eval_commit`, which use its public items alone.
+#![tactic(auto)]
+
+#[cfg(test)]
+mod machine;
