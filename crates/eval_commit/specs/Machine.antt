@@ -1,9 +1,17 @@
 -- What a machine is to its callers.
-use Rattle.std.specs.Prelude.{Option}
-use Rattle.circuit.specs.Run.{Standing}
+use Rattle.std.specs.Prelude.{ℕ, List, length, Option, option_and_then}
+use Rattle.circuit.specs.Run.{Standing, rounds_from, settled}
 use Rattle.circuit.specs.declared.netlist.Circuit.{Circuit}
 
--- a circuit, and how it stands after the last sample; it stands nowhere once a sample did not settle
+-- a circuit, with its state and the numbers of its nets after the last sample, or neither once a sample did not settle
 pub record MachineState : Type 0 where
   pub circuit : Circuit
   pub standing : Option Standing
+
+-- after one more sample, under these inputs
+abbrev pub after_sample : MachineState → List ℕ → MachineState
+after_sample m inputs = record { circuit = m.circuit; standing = option_and_then (λ s. settled m.circuit s inputs) m.standing }
+
+-- how many rounds that sample takes: 256 where it does not settle, and none where one before it did not
+abbrev pub rounds_of_sample : MachineState → List ℕ → ℕ
+rounds_of_sample m inputs = length (rounds_from m.circuit m.standing inputs)

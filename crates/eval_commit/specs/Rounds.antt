@@ -17,7 +17,7 @@ use Rattle.eval_commit.specs.Round.{IsBlank}
 use Rattle.eval_commit.specs.Stored.{kept_state}
 use Rattle.eval_commit.specs.declared.step.Rounds.{Rounds}
 
--- a plan of a valid circuit
+-- a plan of a valid circuit in order
 pub record IsPlanOf (c : Circuit) (plan : Plan) : Type 0 where
   pub valid : is_valid c ≡ true
   pub order : IsInOrder c
@@ -43,6 +43,6 @@ pub record AreRoundsOf (c : Circuit) (plan : Plan) (r : Rounds) : Type 0 where
 abbrev pub state_of : Rounds → State
 state_of r = kept_state r.regs r.rows r.ports
 
--- the state, and the number of each net in the round before
+-- the state, and the number of each net in the last round that was done
 abbrev pub standing_of : Rounds → Standing
 standing_of r = record { state = state_of r; nets = numbers r.before.nets }

@@ -12,6 +12,6 @@ stored_all [] outs = []
 stored_all (r ∷ rs) [] = []
 stored_all (r ∷ rs) (o ∷ os) = stored r o ∷ stored_all rs os
 
--- the registers besides
+-- the state: these registers and these memories
 abbrev pub kept_state : List BitValue → List RowValues → List (List BitValue) → State
 kept_state regs rows outs = record { regs = numbers regs; mems = stored_all rows outs }

@@ -1,11 +1,12 @@
 //! A circuit that goes from sample to sample.
-ghost use Rattle.std.specs.Prelude.{◌≡◌, ℕ, ◌+◌, ◌*◌, ◌<◌, true, Some, None, IfOk, is_some, length, option_and_then, slice_get, slice_index};
+ghost use Rattle.std.specs.Prelude.{◌≡◌, ℕ, ◌+◌, ◌*◌, ◌<◌, true, Some, None, IfOk, is_some, length, slice_get, slice_index};
 ghost use Rattle.std.specs.Arc.{arc_value};
 ghost use Rattle.sim_base.specs.BitValue.{bit_value};
-ghost use Rattle.circuit.specs.Run.{Standing, rounds_from, row_in, settled, start};
+ghost use Rattle.circuit.specs.Run.{Standing, row_in, start};
 ghost use Rattle.circuit.specs.declared.memory.Mem.{Mem as TheMem};
 ghost use Rattle.circuit.specs.declared.netlist.Net.{Net as TheNet};
 ghost use Rattle.signal_words.specs.Values.{numbers};
+ghost use Rattle.eval_commit.specs.Machine.{after_sample, rounds_of_sample};
 ghost use Rattle.eval_commit.specs.Round.{AreInputsOf};
 ghost use Rattle.eval_commit.specs.Rounds.{IsPlanOf};
 ghost use Rattle.eval_commit.specs.declared.settle.Settled.TheVariants as settled_as;
@@ -20,8 +21,8 @@ use std::marker::Model;
 use std::sync::Arc;
 use std::sync::ledger::Ledger;
 
-/// A circuit, and how it stands after the last sample. Contracts see these two; once a sample did not
-/// settle, it stands nowhere.
+/// A circuit that goes from sample to sample. Contracts see the circuit, and its state and the numbers of its
+/// nets after the last sample; neither of these once a sample did not settle.
 #[derive(Debug, Drop)]
 pub struct Machine {
     circuit: Arc<Circuit>,
@@ -45,7 +46,8 @@ impl Model for Machine {
 }
 
 impl Machine {
-    /// Stands before the first sample.
+    /// A machine before the first sample: registers and memories have their start values, and the nets what
+    /// these give under inputs that are all 0. Without memory the circuit's handle and the plan are dropped.
     pub fn new(alloc: Global, circuit: Arc<Circuit>, plan: Plan) -> Result<Machine, NoMemory>
         requires { IsPlanOf (arc_value circuit) plan }
         ensures { IfOk result (λ m. m ≡ record { circuit = arc_value circuit; standing = Some (start (arc_value circuit)) }) }
@@ -59,15 +61,18 @@ impl Machine {
         })
     }
 
-    /// Goes on by one sample, by at most 256 rounds, in each of which every node of the plan is evaluated.
-    /// Takes a step for each cell in each round, and no memory. Once a sample did not settle, all later
-    /// ones answer so too, and take no step.
+    /// Takes the circuit through one sample: rounds until one leaves the state as it was, at most 256. There is
+    /// one input for each of the circuit's, in their order, of the width of its net. `Yes` has the number of
+    /// rounds. `No` comes exactly where round 256 still changed the state, and for each sample from then on.
+    /// Each round evaluates every node of the plan, and takes a step for each cell and none for a read port.
+    /// It takes no memory.
     pub fn settle<L: Ledger>(&mut self, inputs: &[Bits], steps: &mut Steps<L>) -> Settled
         requires inputs { AreInputsOf self.old.circuit inputs.now }
-        ensures machine { self.new ≡ record { circuit = self.old.circuit; standing = option_and_then (λ s. settled self.old.circuit s (numbers inputs.now)) self.old.standing } }
-        ensures yes { (rounds : ℕ) → result ≡ settled_as.Yes rounds → (is_some self.new.standing ≡ true) × (rounds ≡ length (rounds_from self.old.circuit self.old.standing (numbers inputs.now))) }
+        ensures machine { self.new ≡ after_sample self.old (numbers inputs.now) }
+        ensures yes { (rounds : ℕ) → result ≡ settled_as.Yes rounds → is_some self.new.standing ≡ true }
+        ensures rounds { (rounds : ℕ) → result ≡ settled_as.Yes rounds → rounds ≡ rounds_of_sample self.old (numbers inputs.now) }
         ensures no { result ≡ settled_as.No → self.new.standing ≡ None }
-        ensures steps { steps.new ≡ steps.old + length (rounds_from self.old.circuit self.old.standing (numbers inputs.now)) * length self.old.circuit.cells }
+        ensures steps { steps.new ≡ steps.old + rounds_of_sample self.old (numbers inputs.now) * length self.old.circuit.cells }
     {
         if self.stuck {
             return Settled::No;
@@ -77,7 +82,8 @@ impl Machine {
         settled
     }
 
-    /// The value of a net in the last round. After a sample that did not settle it is any of its width.
+    /// The value of a net in the last round of the last sample, or before the first sample its value under the
+    /// start values and inputs that are all 0. Once a sample did not settle it is any of its width.
     pub fn net(&self, n: u32) -> &Bits
         requires { n < length self.now.circuit.nets }
         ensures width { (x : TheNet) → slice_get self.now.circuit.nets n ≡ Some x → result.now.width ≡ x.width }
@@ -86,8 +92,8 @@ impl Machine {
         &self.rounds.before.nets.as_slice()[n as usize]
     }
 
-    /// Writes a row of a memory into a value of a row's width. After a sample that did not settle it is any
-    /// of its width.
+    /// Writes row `i` of a memory, as it is after the last sample, into a value of a row's width. The row
+    /// stands for the address `i` plus the memory's offset. Once a sample did not settle it is any of its width.
     pub fn row(&self, mem: u32, i: u32, into: &mut Bits)
         requires there { (m : TheMem) × (slice_get self.now.circuit.mems mem ≡ Some m) × (i < m.size) × (into.old.width ≡ m.width) }
         ensures width { into.new.width ≡ into.old.width }

@@ -18,8 +18,9 @@ const MOST_ROUNDS: u32 = 256;
 /// Whether a sample settled.
 #[derive(Clone, Copy, Debug, PartialEq, Eq)]
 pub enum Settled {
-    /// In so many rounds, the last of which changed nothing.
+    /// It settled, in so many rounds, the last of which changed nothing.
     Yes(u32),
+    /// It did not: the last round still changed the state, or a sample before it did not settle.
     No,
 }
 

@@ -31,7 +31,9 @@ pub(crate) struct Rounds {
     pub(crate) rows: Values<Rows>,
     /// For each memory the value of each of its read ports. One without a clock keeps its start value.
     pub(crate) ports: Values<Ports>,
+    /// Its nets are those of the last round that was done.
     pub(crate) before: Store,
+    /// Room for the nets of the next round.
     pub(crate) now: Store,
     /// For each memory room for one of its rows.
     pub(crate) rooms: Vec<Bits>,
@@ -69,7 +71,8 @@ impl Rounds {
         Ok(rounds)
     }
 
-    /// Gives the nets of the round before their values under the state and these inputs.
+    /// Gives the nets of the round before their values under the state and these inputs, in steps that
+    /// nobody counts.
     fn first_nets<L: Ledger>(
         &mut self,
         circuit: &Circuit,
@@ -124,7 +127,7 @@ impl Rounds {
         );
     }
 
-    /// Gives the registers and the memories their next values, and tells whether one of these is another.
+    /// Gives the registers and the memories their next values, and tells whether one of them changed.
     fn next_state(&mut self, circuit: &Circuit, plan: &Plan) -> bool
         requires plan { IsPlanOf circuit.now plan.now }
         requires rounds { AreRoundsOf circuit.now plan.now self.old }

@@ -1,4 +1,4 @@
-//! Valuations of a small circuit.
+//! Valuations of one circuit, and circuits from sample to sample.
 ghost use Rattle.std.specs.Prelude.{◌≡◌, ◌<◌, IfOk, true};
 ghost use Rattle.circuit.specs.Free.{IsInOrder};
 ghost use Rattle.circuit.specs.Valid.{is_valid};
@@ -152,17 +152,18 @@ fn registers_take_values_at_edges(rt: HostRuntime) -> Result<(), Fail> {
 }
 
 #[test]
-fn a_sample_that_does_not_settle_ends_all(rt: HostRuntime) -> Result<(), Fail> {
+fn after_a_sample_that_does_not_settle_none_does(rt: HostRuntime) -> Result<(), Fail> {
     registers::check_restless(&rt, rt.alloc())
 }
 
 #[test]
-fn clears_and_enables_go_first(rt: HostRuntime) -> Result<(), Fail> {
+fn clears_resets_and_enables_have_their_order(rt: HostRuntime) -> Result<(), Fail> {
     registers::check_resets(&rt, rt.alloc())
 }
 
 #[test]
 fn rows_are_read_and_written_in_a_round(rt: HostRuntime) -> Result<(), Fail> {
     memories::check_seen(&rt, rt.alloc())?;
+    memories::check_written(&rt, rt.alloc())?;
     memories::check_last_word(&rt, rt.alloc())
 }

@@ -1,8 +1,7 @@
 //! Circuits with a memory, and what they do.
 use crate::machine::parts::{circuit_of, constant, drive, part, value};
-use crate::machine::samples::{Sample, check};
+use crate::machine::samples::{check, check_row, settles};
 use circuit::{By, Circuit, Mem, Piece, ReadPort, Sig, WritePort};
-use eval_commit::Settled;
 use sim_base::NoMemory;
 use sqlite_items::Items;
 use std::alloc::Global;
@@ -79,15 +78,26 @@ fn push_read_and_written(alloc: Global, circuit: &mut Circuit) -> Result<(), NoM
 
 /// A port that does not see a write reads the old row at its edge, and the new one at the next.
 pub fn check_seen(rt: &impl Abort, alloc: Global) -> Result<(), Fail> {
-    let samples: [Sample; 4] = [
-        (0xA5_01_00, Settled::Yes(1), 0x00_00_A5_01_00),
-        (0xA5_01_01, Settled::Yes(2), 0x00_A5_A5_01_01),
-        (0xA5_01_00, Settled::Yes(1), 0x00_A5_A5_01_00),
-        (0xA5_01_01, Settled::Yes(2), 0xA5_A5_A5_01_01),
+    let samples = [
+        settles(&[0, 1, 0xA5], 1, &[0, 1, 0xA5, 0, 0]),
+        settles(&[1, 1, 0xA5], 2, &[1, 1, 0xA5, 0xA5, 0]),
+        settles(&[0, 1, 0xA5], 1, &[0, 1, 0xA5, 0xA5, 0]),
+        settles(&[1, 1, 0xA5], 2, &[1, 1, 0xA5, 0xA5, 0xA5]),
     ];
     let mut circuit = circuit_of(alloc, &[1, 1, 8, 8, 8], 3)?;
     push_read_and_written(alloc, &mut circuit)?;
-    check(rt, alloc, circuit, &samples)
+    check(rt, alloc, circuit, &[0, 0, 0, 0, 0], &samples)
+}
+
+/// The row has what was written after the sample of the edge.
+pub fn check_written(rt: &impl Abort, alloc: Global) -> Result<(), Fail> {
+    let samples = [
+        settles(&[0, 1, 0xA5], 1, &[0, 1, 0xA5, 0, 0]),
+        settles(&[1, 1, 0xA5], 2, &[1, 1, 0xA5, 0xA5, 0]),
+    ];
+    let mut circuit = circuit_of(alloc, &[1, 1, 8, 8, 8], 3)?;
+    push_read_and_written(alloc, &mut circuit)?;
+    check_row(rt, alloc, circuit, (0, 0xA5), &samples)
 }
 
 /// Two ports that write FF and 0, and one that reads without a clock.
@@ -117,8 +127,8 @@ fn push_written_twice(alloc: Global, circuit: &mut Circuit) -> Result<(), NoMemo
 
 /// Of two ports that write to one row the last one's word stays.
 pub fn check_last_word(rt: &impl Abort, alloc: Global) -> Result<(), Fail> {
-    let samples: [Sample; 2] = [(0, Settled::Yes(1), 0xAB_00), (1, Settled::Yes(2), 0x00_01)];
+    let samples = [settles(&[0], 1, &[0, 0xAB]), settles(&[1], 2, &[1, 0])];
     let mut circuit = circuit_of(alloc, &[1, 8], 1)?;
     push_written_twice(alloc, &mut circuit)?;
-    check(rt, alloc, circuit, &samples)
+    check(rt, alloc, circuit, &[0, 0xAB], &samples)
 }

@@ -2,9 +2,8 @@
 use crate::machine::parts::{
     circuit_of, constant, drive, inverter, part, push_register, register, value,
 };
-use crate::machine::samples::{Sample, check};
+use crate::machine::samples::{check, restless, settles};
 use circuit::{By, Circuit, Reg, RegKind, Sig};
-use eval_commit::Settled;
 use sim_base::NoMemory;
 use std::alloc::Global;
 use std::process::Abort;
@@ -32,48 +31,48 @@ fn push_inverter(alloc: Global, circuit: &mut Circuit, net: u32, of: u32) -> Res
 
 /// A clock that is 1 at the first sample has its edge there.
 pub fn check_first_edge(rt: &impl Abort, alloc: Global) -> Result<(), Fail> {
-    let samples: [Sample; 1] = [(1, Settled::Yes(2), 0x01_01)];
+    let samples = [settles(&[1], 2, &[1, 1])];
     let mut circuit = circuit_of(alloc, &[1, 1], 1)?;
     push_flip_flop(alloc, &mut circuit, 0, 1, 0, constant(alloc, 1, 1)?)?;
-    check(rt, alloc, circuit, &samples)
+    check(rt, alloc, circuit, &[0, 0], &samples)
 }
 
-/// Two registers of one clock, the second of which takes the first, which takes 1.
+/// Two registers of one clock (net 0), the second (net 3) of which takes the first (net 2), which takes net 1.
 fn push_chain(alloc: Global, circuit: &mut Circuit) -> Result<(), NoMemory> {
-    push_flip_flop(alloc, circuit, 0, 1, 0, constant(alloc, 1, 1)?)?;
-    push_flip_flop(alloc, circuit, 1, 2, 0, part(alloc, 1, 0, 1)?)
+    push_flip_flop(alloc, circuit, 0, 2, 0, part(alloc, 1, 0, 1)?)?;
+    push_flip_flop(alloc, circuit, 1, 3, 0, part(alloc, 2, 0, 1)?)
 }
 
 pub fn check_chain(rt: &impl Abort, alloc: Global) -> Result<(), Fail> {
-    let samples: [Sample; 4] = [
-        (0, Settled::Yes(1), 0x00_00_00),
-        (1, Settled::Yes(2), 0x00_01_01),
-        (0, Settled::Yes(1), 0x00_01_00),
-        (1, Settled::Yes(2), 0x01_01_01),
+    let samples = [
+        settles(&[0, 1], 1, &[0, 1, 0, 0]),
+        settles(&[1, 1], 2, &[1, 1, 1, 0]),
+        settles(&[0, 1], 1, &[0, 1, 1, 0]),
+        settles(&[1, 1], 2, &[1, 1, 1, 1]),
     ];
-    let mut circuit = circuit_of(alloc, &[1, 1, 1], 1)?;
+    let mut circuit = circuit_of(alloc, &[1, 1, 1, 1], 2)?;
     push_chain(alloc, &mut circuit)?;
-    check(rt, alloc, circuit, &samples)
+    check(rt, alloc, circuit, &[0, 0, 0, 0], &samples)
 }
 
-/// The nets x (1) and g (2), which take 1 and the inverse of g (4) at the clock, and y (3), which takes x
-/// at g.
+/// The nets x (2) and g (3), which take net 1 and the inverse of g (5) at the clock (net 0), and y (4), which
+/// takes x at g.
 fn push_derived_clock(alloc: Global, circuit: &mut Circuit) -> Result<(), NoMemory> {
-    push_flip_flop(alloc, circuit, 0, 1, 0, constant(alloc, 1, 1)?)?;
-    push_flip_flop(alloc, circuit, 1, 2, 0, part(alloc, 4, 0, 1)?)?;
-    push_flip_flop(alloc, circuit, 2, 3, 2, part(alloc, 1, 0, 1)?)?;
-    push_inverter(alloc, circuit, 4, 2)
+    push_flip_flop(alloc, circuit, 0, 2, 0, part(alloc, 1, 0, 1)?)?;
+    push_flip_flop(alloc, circuit, 1, 3, 0, part(alloc, 5, 0, 1)?)?;
+    push_flip_flop(alloc, circuit, 2, 4, 3, part(alloc, 2, 0, 1)?)?;
+    push_inverter(alloc, circuit, 5, 3)
 }
 
 /// The register behind the derived clock takes its value one round later.
 pub fn check_derived_clock(rt: &impl Abort, alloc: Global) -> Result<(), Fail> {
-    let samples: [Sample; 2] = [
-        (0, Settled::Yes(1), 0x01_00_00_00_00),
-        (1, Settled::Yes(3), 0x00_01_01_01_01),
+    let samples = [
+        settles(&[0, 1], 1, &[0, 1, 0, 0, 0, 1]),
+        settles(&[1, 1], 3, &[1, 1, 1, 1, 1, 0]),
     ];
-    let mut circuit = circuit_of(alloc, &[1, 1, 1, 1, 1], 1)?;
+    let mut circuit = circuit_of(alloc, &[1, 1, 1, 1, 1, 1], 2)?;
     push_derived_clock(alloc, &mut circuit)?;
-    check(rt, alloc, circuit, &samples)
+    check(rt, alloc, circuit, &[0, 0, 0, 0, 0, 1], &samples)
 }
 
 /// A latch (net 1) that takes its own inverse (net 2) while the input is 1.
@@ -87,14 +86,10 @@ fn push_restless(alloc: Global, circuit: &mut Circuit) -> Result<(), NoMemory> {
 
 /// After a sample that does not settle none does.
 pub fn check_restless(rt: &impl Abort, alloc: Global) -> Result<(), Fail> {
-    let samples: [Sample; 3] = [
-        (0, Settled::Yes(1), 0x01_00_00),
-        (1, Settled::No, 0),
-        (0, Settled::No, 0),
-    ];
+    let samples = [settles(&[0], 1, &[0, 0, 1]), restless(&[1]), restless(&[0])];
     let mut circuit = circuit_of(alloc, &[1, 1, 1], 1)?;
     push_restless(alloc, &mut circuit)?;
-    check(rt, alloc, circuit, &samples)
+    check(rt, alloc, circuit, &[0, 0, 1], &samples)
 }
 
 /// A bit that is 1, and is both set and cleared.
@@ -127,11 +122,11 @@ fn push_resets(alloc: Global, circuit: &mut Circuit) -> Result<(), NoMemory> {
 /// A clear goes before a set. The enable of a `$sdffce` holds its reset back, and that of a `$sdffe` does
 /// not.
 pub fn check_resets(rt: &impl Abort, alloc: Global) -> Result<(), Fail> {
-    let samples: [Sample; 2] = [
-        (0, Settled::Yes(2), 0x03_03_00_00),
-        (1, Settled::Yes(2), 0x02_03_00_01),
+    let samples = [
+        settles(&[0], 2, &[0, 0, 3, 3]),
+        settles(&[1], 2, &[1, 0, 3, 2]),
     ];
     let mut circuit = circuit_of(alloc, &[1, 1, 2, 2], 1)?;
     push_resets(alloc, &mut circuit)?;
-    check(rt, alloc, circuit, &samples)
+    check(rt, alloc, circuit, &[0, 1, 3, 3], &samples)
 }

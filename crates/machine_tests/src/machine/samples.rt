@@ -7,7 +7,7 @@ use crate::machine::{inputs_of, number_of};
 use circuit::Circuit;
 use driver_check::{Plan, order};
 use eval_commit::{Machine, Settled};
-use sim_base::Steps;
+use sim_base::{Bits, NoMemory, Steps};
 use std::alloc::Global;
 use std::marker::Brand;
 use std::process::Abort;
@@ -15,69 +15,107 @@ use std::sync::Arc;
 use std::sync::ledger::{Blank, Ledger};
 use std::test::Fail;
 
-/// The inputs of a sample, whether it settles, and the nets, which are 0 where it does not. Of inputs and
-/// nets each has a byte, the first the lowest one.
-pub type Sample = (u64, Settled, u64);
-
-/// The nets, at most eight.
-fn packed_nets(circuit: &Circuit, machine: &Machine) -> u64
-    requires { machine.now.circuit ≡ circuit.now }
-{
-    let mut all = 0u64;
-    for n in 0..8u32 {
-        if (n as usize) < circuit.nets.len() {
-            all |= (number_of(machine.net(n)) & 0xFF) << (8 * n);
-        }
-    }
-    all
+/// The numbers of the inputs at a sample, and what is seen there: how many rounds it takes, and the nets.
+/// Nothing is seen where it does not settle.
+#[derive(Clone, Copy)]
+pub struct Sample<'a> {
+    inputs: &'a [u64],
+    seen: Option<(u32, &'a [u64])>,
 }
 
-/// Settles under up to three inputs.
+/// A sample that settles in so many rounds.
+pub fn settles<'a>(inputs: &'a [u64], rounds: u32, nets: &'a [u64]) -> Sample<'a> {
+    Sample {
+        inputs,
+        seen: Some((rounds, nets)),
+    }
+}
+
+/// A sample that does not settle.
+pub fn restless(inputs: &[u64]) -> Sample<'_> {
+    Sample { inputs, seen: None }
+}
+
+/// Whether the nets have these numbers.
+fn has_nets(circuit: &Circuit, machine: &Machine, wanted: &[u64]) -> bool
+    requires { machine.now.circuit ≡ circuit.now }
+{
+    let mut same = circuit.nets.len() == wanted.len();
+    let mut n = 0u32;
+    for number in wanted {
+        if (n as usize) < circuit.nets.len() {
+            same &= number_of(machine.net(n)) == *number;
+        }
+        n = n.saturating_add(1);
+    }
+    same
+}
+
+/// Whether what is wanted is seen.
+fn is_seen(
+    circuit: &Circuit,
+    machine: &Machine,
+    settled: Settled,
+    wanted: Option<(u32, &[u64])>,
+) -> bool
+    requires { machine.now.circuit ≡ circuit.now }
+{
+    match (settled, wanted) {
+        (Settled::Yes(rounds), Some((count, nets))) => {
+            rounds == count && has_nets(circuit, machine, nets)
+        }
+        (Settled::No, None) => true,
+        _ => false,
+    }
+}
+
+/// Settles under inputs with these numbers.
 fn settle_under<L: Ledger>(
     alloc: Global,
     circuit: &Circuit,
     machine: &mut Machine,
-    packed: u64,
+    numbers: &[u64],
     steps: &mut Steps<L>,
 ) -> Result<Settled, Fail>
     requires { machine.old.circuit ≡ circuit.now }
     ensures { machine.new.circuit ≡ circuit.now }
 {
-    let numbers = [packed & 0xFF, (packed >> 8) & 0xFF, packed >> 16];
-    let inputs = inputs_of(alloc, circuit, numbers.as_slice())?;
+    if numbers.len() != circuit.inputs.len() {
+        return Err(Fail::from("a number for each input is wanted"));
+    }
+    let inputs = inputs_of(alloc, circuit, numbers)?;
     Ok(machine.settle(inputs.as_slice(), steps))
 }
 
-/// What is seen at the same inputs as those of the samples.
-fn watch<L: Ledger>(
+/// Settles under the inputs of each sample, and tells whether all that is wanted is seen.
+fn goes_through<L: Ledger>(
     alloc: Global,
     circuit: &Circuit,
     machine: &mut Machine,
     samples: &[Sample],
     steps: &mut Steps<L>,
-) -> Result<Vec<Sample>, Fail>
+) -> Result<bool, Fail>
     requires { machine.old.circuit ≡ circuit.now }
+    ensures { machine.new.circuit ≡ circuit.now }
 {
-    let mut seen = Vec::new(alloc);
-    for (packed, _, _) in samples {
-        let settled = settle_under(alloc, circuit, machine, *packed, steps)?;
-        let nets = match settled {
-            Settled::Yes(_) => packed_nets(circuit, machine),
-            Settled::No => 0,
-        };
-        seen.push((*packed, settled, nets))?;
+    for sample in samples {
+        let settled = settle_under(alloc, circuit, machine, sample.inputs, steps)?;
+        if !is_seen(circuit, machine, settled, sample.seen) {
+            return Ok(false);
+        }
     }
-    Ok(seen)
+    Ok(true)
 }
 
-/// The same by a machine of the circuit.
-fn run<L: Ledger>(
+/// The same with a new machine, whose nets have first these numbers.
+fn runs<L: Ledger>(
     alloc: Global,
     circuit: &Arc<Circuit>,
     plan: Plan,
+    first: &[u64],
     samples: &[Sample],
     blank: Blank,
-) -> Result<Vec<Sample>, Fail>
+) -> Result<bool, Fail>
     requires plan { IsPlanOf (arc_value circuit.now) plan }
     requires name { blank.name ≡ L.name }
     requires parts { blank.parts ≡ L.parts }
@@ -85,7 +123,50 @@ fn run<L: Ledger>(
 {
     let mut machine = Machine::new(alloc, circuit.clone()?, plan)?;
     let mut steps = Steps::<L>::new(blank);
-    watch(alloc, circuit, &mut machine, samples, &mut steps)
+    let begins = has_nets(circuit, &machine, first);
+    Ok(begins && goes_through(alloc, circuit, &mut machine, samples, &mut steps)?)
+}
+
+/// The number of a row of the first memory, if there is such a row.
+fn row_of(
+    alloc: Global,
+    circuit: &Circuit,
+    machine: &Machine,
+    i: u32,
+) -> Result<Option<u64>, NoMemory>
+    requires { machine.now.circuit ≡ circuit.now }
+{
+    let Some(mem) = circuit.mems.as_slice().first() else {
+        return Ok(None);
+    };
+    if i >= mem.size {
+        return Ok(None);
+    }
+    let mut row = Bits::zero(alloc, mem.width)?;
+    machine.row(0, i, &mut row);
+    Ok(Some(number_of(&row)))
+}
+
+/// Whether row 2 of the first memory has these numbers before and after the samples.
+fn row_goes<L: Ledger>(
+    alloc: Global,
+    circuit: &Arc<Circuit>,
+    plan: Plan,
+    rows: (u64, u64),
+    samples: &[Sample],
+    blank: Blank,
+) -> Result<bool, Fail>
+    requires plan { IsPlanOf (arc_value circuit.now) plan }
+    requires name { blank.name ≡ L.name }
+    requires parts { blank.parts ≡ L.parts }
+    requires some { 0 < blank.parts }
+{
+    let mut machine = Machine::new(alloc, circuit.clone()?, plan)?;
+    let mut steps = Steps::<L>::new(blank);
+    let before = row_of(alloc, circuit, &machine, 2)?;
+    let goes = goes_through(alloc, circuit, &mut machine, samples, &mut steps)?;
+    let after = row_of(alloc, circuit, &machine, 2)?;
+    Ok(goes && before == Some(rows.0) && after == Some(rows.1))
 }
 
 fn plan_of(alloc: Global, circuit: &Circuit) -> Result<Plan, Fail>
@@ -100,16 +181,30 @@ fn plan_of(alloc: Global, circuit: &Circuit) -> Result<Plan, Fail>
     }
 }
 
-/// Checks that a circuit goes through these samples.
+/// Checks that the nets of a circuit have first these numbers, and that it goes through these samples.
 pub fn check(
     rt: &impl Abort,
     alloc: Global,
     circuit: Circuit,
+    first: &[u64],
     samples: &[Sample],
 ) -> Result<(), Fail> {
     let circuit = Arc::new(alloc, circuit)?;
     let plan = plan_of(alloc, &circuit)?;
-    let seen = run::<Brand>(alloc, &circuit, plan, samples, Blank::new(1))?;
-    assert_eq!(rt; seen.as_slice(), samples);
+    assert!(rt; runs::<Brand>(alloc, &circuit, plan, first, samples, Blank::new(1))?);
+    Ok(())
+}
+
+/// Checks that a circuit goes through these samples, and row 2 of its memory from one number to another.
+pub fn check_row(
+    rt: &impl Abort,
+    alloc: Global,
+    circuit: Circuit,
+    rows: (u64, u64),
+    samples: &[Sample],
+) -> Result<(), Fail> {
+    let circuit = Arc::new(alloc, circuit)?;
+    let plan = plan_of(alloc, &circuit)?;
+    assert!(rt; row_goes::<Brand>(alloc, &circuit, plan, rows, samples, Blank::new(1))?);
     Ok(())
 }

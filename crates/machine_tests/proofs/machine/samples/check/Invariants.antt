@@ -1,4 +1,4 @@
 use Rattle.machine_tests.proofs.machine.samples.check.Given as goal
 
-abbrev pub ghosts-run : goal.ghosts-run
-ghosts-run g a = record { name = a.blank.name; parts = a.blank.parts }
+abbrev pub ghosts-runs : goal.ghosts-runs
+ghosts-runs g a = record { name = a.blank.name; parts = a.blank.parts }
