@@ -6,3 +6,5 @@ mod Filled
 mod Taken
 mod Distances
 mod Pieces
+mod Combined
+mod OneWord

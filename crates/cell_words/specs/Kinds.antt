@@ -17,6 +17,13 @@ is_comparison op.Ge = true
 is_comparison op.Gt = true
 is_comparison _ = false
 
+-- sums, differences and products
+abbrev pub is_modular : Op → Bool
+is_modular op.Add = true
+is_modular op.Sub = true
+is_modular op.Mul = true
+is_modular _ = false
+
 -- with two operands
 abbrev pub is_binary : Op → Bool
 is_binary op.Add = true

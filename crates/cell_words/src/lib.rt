@@ -9,6 +9,7 @@ mod outputs;
 mod port;
 mod shift;
 mod source;
+mod values;
 mod whole;
 mod write;
 

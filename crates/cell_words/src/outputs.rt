@@ -6,7 +6,7 @@ ghost use Rattle.circuit.specs.Signal.{sig_number, sig_value, sig_width};
 ghost use Rattle.circuit.specs.Valid.{widths_fit, widths_of};
 ghost use Rattle.signal_words.specs.Values.{digits_in, AreInside, IsSignalOf, IsWordOf};
 ghost use Rattle.signal_words.specs.Stores.{IsCellOf};
-ghost use Rattle.cell_words.specs.Kinds.{is_arithmetic, is_arithmetic_or_shift, is_shift};
+ghost use Rattle.cell_words.specs.Kinds.{is_arithmetic, is_arithmetic_or_shift, is_modular, is_shift};
 ghost use Rattle.cell_words.specs.Shifts.{is_below_zero, places};
 
 use crate::amount::{amount_of, is_below_zero};
@@ -15,9 +15,10 @@ use crate::narrow::is_below_zero as is_word_below_zero;
 use crate::port::{Port, port_of};
 use crate::shift::{moved_word, shift_of, shifted_plainly};
 use crate::source::{Source, fill};
+use crate::values::{combined, low_digits, only_word, put_only_word};
 use crate::write::{put_low, put_low_word};
 use circuit::{Cell, Op, Store};
-use signal_words::{SigWord, one_word, sig_width, word_of};
+use signal_words::{SigWord, one_word, sig_width, whole_value, word_of};
 use sim_base::{Bits, Steps};
 use std::sync::ledger::Ledger;
 
@@ -96,6 +97,66 @@ fn arithmetic(cell: &Cell, nets: &[Bits], into: &mut Bits) -> bool
         }
     }
     arithmetic_of_pieces(cell, nets, into)
+}
+
+/// The same, apart from the ways for whole values.
+#[inline(never)]
+fn arithmetic_of_parts(cell: &Cell, nets: &[Bits], into: &mut Bits) -> bool
+    requires kind { is_arithmetic cell.now.op ≡ true }
+    requires width { cell.now.width ≤ 128 }
+    requires a { AreInside nets.now cell.now.a }
+    requires a_narrow { sig_width cell.now.a ≤ 128 }
+    requires b { AreInside nets.now cell.now.b }
+    requires b_narrow { sig_width cell.now.b ≤ 128 }
+    requires into { into.old.width ≡ cell.now.width }
+    ensures value { into.new ≡ bit_value cell.now.width (output (digits_in nets.now) cell.now) }
+    ensures changed { result ≡ not (into.old.number == output (digits_in nets.now) cell.now) }
+{
+    arithmetic(cell, nets, into)
+}
+
+/// `$add`, `$sub` and `$mul` of two values of the output's width, which need no sign.
+#[inline(always)]
+fn put_combined(cell: &Cell, nets: &[Bits], a: &Bits, b: &Bits, into: &mut Bits) -> bool
+    requires kind { is_modular cell.now.op ≡ true }
+    requires some { 0 < cell.now.width }
+    requires width { cell.now.width ≤ 64 }
+    requires a { a.now ≡ sig_value (digits_in nets.now) cell.now.a }
+    requires a_width { a.now.width ≡ cell.now.width }
+    requires b { b.now ≡ sig_value (digits_in nets.now) cell.now.b }
+    requires b_width { b.now.width ≡ cell.now.width }
+    requires into { into.old.width ≡ cell.now.width }
+    ensures value { into.new ≡ bit_value cell.now.width (output (digits_in nets.now) cell.now) }
+    ensures changed { result ≡ not (into.old.number == output (digits_in nets.now) cell.now) }
+{
+    let _ = nets;
+    let number = combined(cell.op, only_word(a), only_word(b));
+    let word = low_digits(number, into.width());
+    put_only_word(into, word)
+}
+
+/// `$add`, `$sub` and `$mul`, and in one word where each port is a whole value of the output's width.
+#[inline(always)]
+fn combination(cell: &Cell, nets: &[Bits], into: &mut Bits) -> bool
+    requires kind { is_modular cell.now.op ≡ true }
+    requires width { cell.now.width ≤ 128 }
+    requires a { AreInside nets.now cell.now.a }
+    requires a_narrow { sig_width cell.now.a ≤ 128 }
+    requires b { AreInside nets.now cell.now.b }
+    requires b_narrow { sig_width cell.now.b ≤ 128 }
+    requires into { into.old.width ≡ cell.now.width }
+    ensures value { into.new ≡ bit_value cell.now.width (output (digits_in nets.now) cell.now) }
+    ensures changed { result ≡ not (into.old.number == output (digits_in nets.now) cell.now) }
+{
+    if let Some(a) = whole_value(cell.a.as_slice(), nets) {
+        if let Some(b) = whole_value(cell.b.as_slice(), nets) {
+            let width = into.width();
+            if a.width() == width && b.width() == width && width > 0 && width <= 64 {
+                return put_combined(cell, nets, a, b, into);
+            }
+        }
+    }
+    arithmetic_of_parts(cell, nets, into)
 }
 
 /// Whether the second operand has a sign, which it has in two types alone.
@@ -231,6 +292,7 @@ fn written(cell: &Cell, nets: &[Bits], into: &mut Bits) -> bool
         Op::Shl | Op::Sshl | Op::Shr | Op::Sshr | Op::Shift | Op::Shiftx => {
             shifted(cell, nets, into)
         }
+        Op::Add | Op::Sub | Op::Mul => combination(cell, nets, into),
         _ => arithmetic(cell, nets, into),
     }
 }
