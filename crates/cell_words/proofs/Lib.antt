@@ -7,4 +7,5 @@ mod Taken
 mod Distances
 mod Pieces
 mod Combined
+mod Compared
 mod OneWord

@@ -1,12 +1,12 @@
 //! Cells evaluated over a store.
-ghost use Rattle.std.specs.Prelude.{◌≡◌, ◌+◌, ◌<◌, ◌≤◌, ◌^◌, ◌==◌, not, true, false, slice_set, slice_index_or};
+ghost use Rattle.std.specs.Prelude.{◌≡◌, ◌+◌, ◌<◌, ◌≤◌, ◌^◌, ◌==◌, ◌&&◌, not, true, false, slice_set, slice_index_or};
 ghost use Rattle.sim_base.specs.BitValue.{bit_value, zeros};
 ghost use Rattle.circuit.specs.Output.{Inputs, inputs_of, operand, output};
 ghost use Rattle.circuit.specs.Signal.{sig_number, sig_value, sig_width};
 ghost use Rattle.circuit.specs.Valid.{widths_fit, widths_of};
 ghost use Rattle.signal_words.specs.Values.{digits_in, AreInside, IsSignalOf, IsWordOf};
 ghost use Rattle.signal_words.specs.Stores.{IsCellOf};
-ghost use Rattle.cell_words.specs.Kinds.{is_arithmetic, is_arithmetic_or_shift, is_modular, is_shift};
+ghost use Rattle.cell_words.specs.Kinds.{is_arithmetic, is_arithmetic_or_shift, is_comparison, is_modular, is_shift};
 ghost use Rattle.cell_words.specs.Shifts.{is_below_zero, places};
 
 use crate::amount::{amount_of, is_below_zero};
@@ -15,7 +15,7 @@ use crate::narrow::is_below_zero as is_word_below_zero;
 use crate::port::{Port, port_of};
 use crate::shift::{moved_word, shift_of, shifted_plainly};
 use crate::source::{Source, fill};
-use crate::values::{combined, low_digits, only_word, put_only_word};
+use crate::values::{combined, compared, digit, is_one_word, low_digits, only_word, put_only_word};
 use crate::write::{put_low, put_low_word};
 use circuit::{Cell, Op, Store};
 use signal_words::{SigWord, one_word, sig_width, whole_value, word_of};
@@ -117,8 +117,9 @@ fn arithmetic_of_parts(cell: &Cell, nets: &[Bits], into: &mut Bits) -> bool
 
 /// `$add`, `$sub` and `$mul` of two values of the output's width, which need no sign.
 #[inline(always)]
-fn put_combined(cell: &Cell, nets: &[Bits], a: &Bits, b: &Bits, into: &mut Bits) -> bool
-    requires kind { is_modular cell.now.op ≡ true }
+fn put_combined(op: Op, cell: &Cell, nets: &[Bits], a: &Bits, b: &Bits, into: &mut Bits) -> bool
+    requires kind { is_modular op ≡ true }
+    requires op { cell.now.op ≡ op }
     requires some { 0 < cell.now.width }
     requires width { cell.now.width ≤ 64 }
     requires a { a.now ≡ sig_value (digits_in nets.now) cell.now.a }
@@ -130,15 +131,17 @@ fn put_combined(cell: &Cell, nets: &[Bits], a: &Bits, b: &Bits, into: &mut Bits)
     ensures changed { result ≡ not (into.old.number == output (digits_in nets.now) cell.now) }
 {
     let _ = nets;
-    let number = combined(cell.op, only_word(a), only_word(b));
+    let number = combined(op, only_word(a), only_word(b));
     let word = low_digits(number, into.width());
     put_only_word(into, word)
 }
 
-/// `$add`, `$sub` and `$mul`, and in one word where each port is a whole value of the output's width.
+/// `$add`, `$sub` and `$mul`, and in one word where each port is a whole value of the output's width. The type is
+/// given apart from the cell, so that each has a way of its own.
 #[inline(always)]
-fn combination(cell: &Cell, nets: &[Bits], into: &mut Bits) -> bool
-    requires kind { is_modular cell.now.op ≡ true }
+fn combination(op: Op, cell: &Cell, nets: &[Bits], into: &mut Bits) -> bool
+    requires kind { is_modular op ≡ true }
+    requires op { cell.now.op ≡ op }
     requires width { cell.now.width ≤ 128 }
     requires a { AreInside nets.now cell.now.a }
     requires a_narrow { sig_width cell.now.a ≤ 128 }
@@ -151,8 +154,64 @@ fn combination(cell: &Cell, nets: &[Bits], into: &mut Bits) -> bool
     if let Some(a) = whole_value(cell.a.as_slice(), nets) {
         if let Some(b) = whole_value(cell.b.as_slice(), nets) {
             let width = into.width();
-            if a.width() == width && b.width() == width && width > 0 && width <= 64 {
-                return put_combined(cell, nets, a, b, into);
+            if a.width() == width && b.width() == width && is_one_word(width) {
+                return put_combined(op, cell, nets, a, b, into);
+            }
+        }
+    }
+    arithmetic_of_parts(cell, nets, into)
+}
+
+/// Whether both operands have a sign.
+#[inline(always)]
+fn are_signed(cell: &Cell) -> bool
+    ensures { result ≡ cell.now.a_signed && cell.now.b_signed }
+{
+    cell.a_signed && cell.b_signed
+}
+
+/// `$lt`, `$le`, `$ge` and `$gt` of two values of one width.
+#[inline(always)]
+fn put_compared(op: Op, cell: &Cell, nets: &[Bits], a: &Bits, b: &Bits, into: &mut Bits) -> bool
+    requires kind { is_comparison op ≡ true }
+    requires op { cell.now.op ≡ op }
+    requires some { 0 < cell.now.width }
+    requires width { cell.now.width ≤ 64 }
+    requires a { a.now ≡ sig_value (digits_in nets.now) cell.now.a }
+    requires a_some { 0 < a.now.width }
+    requires a_width { a.now.width ≤ 64 }
+    requires b { b.now ≡ sig_value (digits_in nets.now) cell.now.b }
+    requires b_width { b.now.width ≡ a.now.width }
+    requires into { into.old.width ≡ cell.now.width }
+    ensures value { into.new ≡ bit_value cell.now.width (output (digits_in nets.now) cell.now) }
+    ensures changed { result ≡ not (into.old.number == output (digits_in nets.now) cell.now) }
+{
+    let _ = nets;
+    let signed = are_signed(cell);
+    let told = compared(op, signed, a.width(), only_word(a), only_word(b));
+    let word = digit(told);
+    put_only_word(into, word)
+}
+
+/// `$lt`, `$le`, `$ge` and `$gt`, and in one word where the ports are whole values of one width.
+#[inline(always)]
+fn comparison(op: Op, cell: &Cell, nets: &[Bits], into: &mut Bits) -> bool
+    requires kind { is_comparison op ≡ true }
+    requires op { cell.now.op ≡ op }
+    requires width { cell.now.width ≤ 128 }
+    requires a { AreInside nets.now cell.now.a }
+    requires a_narrow { sig_width cell.now.a ≤ 128 }
+    requires b { AreInside nets.now cell.now.b }
+    requires b_narrow { sig_width cell.now.b ≤ 128 }
+    requires into { into.old.width ≡ cell.now.width }
+    ensures value { into.new ≡ bit_value cell.now.width (output (digits_in nets.now) cell.now) }
+    ensures changed { result ≡ not (into.old.number == output (digits_in nets.now) cell.now) }
+{
+    if let Some(a) = whole_value(cell.a.as_slice(), nets) {
+        if let Some(b) = whole_value(cell.b.as_slice(), nets) {
+            let width = a.width();
+            if b.width() == width && is_one_word(width) && is_one_word(into.width()) {
+                return put_compared(op, cell, nets, a, b, into);
             }
         }
     }
@@ -292,7 +351,13 @@ fn written(cell: &Cell, nets: &[Bits], into: &mut Bits) -> bool
         Op::Shl | Op::Sshl | Op::Shr | Op::Sshr | Op::Shift | Op::Shiftx => {
             shifted(cell, nets, into)
         }
-        Op::Add | Op::Sub | Op::Mul => combination(cell, nets, into),
+        Op::Add => combination(Op::Add, cell, nets, into),
+        Op::Sub => combination(Op::Sub, cell, nets, into),
+        Op::Mul => combination(Op::Mul, cell, nets, into),
+        Op::Lt => comparison(Op::Lt, cell, nets, into),
+        Op::Le => comparison(Op::Le, cell, nets, into),
+        Op::Ge => comparison(Op::Ge, cell, nets, into),
+        Op::Gt => comparison(Op::Gt, cell, nets, into),
         _ => arithmetic(cell, nets, into),
     }
 }

@@ -1,7 +1,7 @@
-use Rattle.std.proofs.Common.{◌≡◌, ◌%◌, ◌^◌, ◌∙◌, ◌&&◌, ap, not}
+use Rattle.std.proofs.Common.{◌≡◌, ◌%◌, ◌^◌, ◌∙◌, ◌&&◌, ap, sym, not}
 use Rattle.std.specs.Prelude.{◌==◌}
 use Rattle.sim_base.specs.BitValue.{bit_value}
-use Rattle.circuit.specs.Output.{inputs_of, output}
+use Rattle.circuit.specs.Output.{formula, inputs_of, modulo, output}
 use Rattle.signal_words.specs.Values.{digits_in}
 use Rattle.cell_words.proofs.Combined.{value_digits}
 use Rattle.cell_words.proofs.outputs.put_combined.Goals as goal
@@ -15,6 +15,7 @@ number c =
     ∙ c.combined-number.ensures i cell.width c.requires.width
     (value_digits signed cell.width c.only_word.result c.args.a.now i.a c.requires.a c.requires.a_width c.only_word.ensures.below c.only_word.ensures.value)
     (value_digits signed cell.width c.only_word-2.result c.args.b.now i.b c.requires.b c.requires.b_width c.only_word-2.ensures.below c.only_word-2.ensures.value)
+    ∙ ap (λ o. modulo cell.width (formula o i)) (sym c.requires.op)
 
 pub returns-clause-value : goal.returns-clause-value
 returns-clause-value c =
