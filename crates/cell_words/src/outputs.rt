@@ -1,6 +1,7 @@
 //! Cells evaluated over a store.
-ghost use Rattle.std.specs.Prelude.{◌≡◌, ◌+◌, ◌<◌, ◌≤◌, ◌^◌, ◌==◌, ◌&&◌, not, true, false, slice_set, slice_index_or};
-ghost use Rattle.sim_base.specs.BitValue.{bit_value, zeros};
+ghost use Rattle.std.specs.Prelude.{◌≡◌, List, ◌+◌, ◌<◌, ◌≤◌, ◌^◌, ◌==◌, ◌&&◌, not, true, false, slice_set, slice_index_or};
+ghost use Rattle.sim_base.specs.BitValue.{BitValue, bit_value, zeros};
+ghost use Rattle.circuit.specs.declared.netlist.Piece.{Piece};
 ghost use Rattle.circuit.specs.Output.{Inputs, inputs_of, operand, output};
 ghost use Rattle.circuit.specs.Signal.{sig_number, sig_value, sig_width};
 ghost use Rattle.circuit.specs.Valid.{widths_fit, widths_of};
@@ -337,6 +338,83 @@ fn shifted(cell: &Cell, nets: &[Bits], into: &mut Bits) -> bool
     shifted_pieces(cell, nets, into)
 }
 
+/// The same, apart from the ways for whole values.
+#[inline(never)]
+fn shifted_parts(cell: &Cell, nets: &[Bits], into: &mut Bits) -> bool
+    requires kind { is_shift cell.now.op ≡ true }
+    requires width { cell.now.width ≤ 65536 }
+    requires a { IsSignalOf nets.now cell.now.a }
+    requires b { IsSignalOf nets.now cell.now.b }
+    requires into { into.old.width ≡ cell.now.width }
+    ensures value { into.new ≡ bit_value cell.now.width (output (digits_in nets.now) cell.now) }
+    ensures changed { result ≡ not (into.old.number == output (digits_in nets.now) cell.now) }
+{
+    shifted(cell, nets, into)
+}
+
+/// A shift of a value of one word by another one, where neither is below 0.
+#[inline(always)]
+fn put_shifted(op: Op, cell: &Cell, nets: &[Bits], a: SigWord, b: SigWord, into: &mut Bits) -> bool
+    requires kind { is_shift op ≡ true }
+    requires op { cell.now.op ≡ op }
+    requires some { 0 < cell.now.width }
+    requires width { cell.now.width ≤ 64 }
+    requires a { IsWordOf nets.now cell.now.a a.width a.number }
+    requires b { IsWordOf nets.now cell.now.b b.width b.number }
+    requires a_positive { is_below_zero cell.now.a_signed a.width a.number ≡ false }
+    requires b_positive { is_below_zero cell.now.b_signed b.width b.number ≡ false }
+    requires into { into.old.width ≡ cell.now.width }
+    ensures value { into.new ≡ bit_value cell.now.width (output (digits_in nets.now) cell.now) }
+    ensures changed { result ≡ not (into.old.number == output (digits_in nets.now) cell.now) }
+{
+    let _ = nets;
+    let number = shifted_plainly(op, a.number, b.number);
+    let word = low_digits(number, into.width());
+    put_only_word(into, word)
+}
+
+/// The word that a value is.
+#[inline(always)]
+fn word_of_value(value: &Bits) -> SigWord
+    requires some { 0 < value.now.width }
+    requires small { value.now.width ≤ 64 }
+    ensures word { (nets : List BitValue) (sig : List Piece) → value.now ≡ sig_value (digits_in nets) sig → IsWordOf nets sig result.width result.number }
+    ensures small { result.width ≤ 64 }
+    ensures below { result.number < 2 ^ result.width }
+{
+    SigWord {
+        width: value.width(),
+        number: only_word(value),
+    }
+}
+
+/// A shift, and in one word where the ports are whole values of one word and neither is below 0.
+#[inline(always)]
+fn shift(op: Op, cell: &Cell, nets: &[Bits], into: &mut Bits) -> bool
+    requires kind { is_shift op ≡ true }
+    requires op { cell.now.op ≡ op }
+    requires width { cell.now.width ≤ 65536 }
+    requires a { IsSignalOf nets.now cell.now.a }
+    requires b { IsSignalOf nets.now cell.now.b }
+    requires into { into.old.width ≡ cell.now.width }
+    ensures value { into.new ≡ bit_value cell.now.width (output (digits_in nets.now) cell.now) }
+    ensures changed { result ≡ not (into.old.number == output (digits_in nets.now) cell.now) }
+{
+    if let Some(a) = whole_value(cell.a.as_slice(), nets) {
+        if let Some(b) = whole_value(cell.b.as_slice(), nets) {
+            if is_one_word(into.width()) && is_one_word(a.width()) && is_one_word(b.width()) {
+                let (a, b) = (word_of_value(a), word_of_value(b));
+                let below = is_word_below_zero(a, cell.a_signed)
+                    || is_word_below_zero(b, cell.b_signed);
+                if !below {
+                    return put_shifted(op, cell, nets, a, b, into);
+                }
+            }
+        }
+    }
+    shifted_parts(cell, nets, into)
+}
+
 fn written(cell: &Cell, nets: &[Bits], into: &mut Bits) -> bool
     requires kind { is_arithmetic_or_shift cell.now.op ≡ true }
     requires width { cell.now.width ≤ 65536 }
@@ -348,9 +426,11 @@ fn written(cell: &Cell, nets: &[Bits], into: &mut Bits) -> bool
     ensures changed { result ≡ not (into.old.number == output (digits_in nets.now) cell.now) }
 {
     match cell.op {
-        Op::Shl | Op::Sshl | Op::Shr | Op::Sshr | Op::Shift | Op::Shiftx => {
-            shifted(cell, nets, into)
-        }
+        Op::Shl => shift(Op::Shl, cell, nets, into),
+        Op::Sshl => shift(Op::Sshl, cell, nets, into),
+        Op::Shr => shift(Op::Shr, cell, nets, into),
+        Op::Sshr => shift(Op::Sshr, cell, nets, into),
+        Op::Shift | Op::Shiftx => shifted(cell, nets, into),
         Op::Add => combination(Op::Add, cell, nets, into),
         Op::Sub => combination(Op::Sub, cell, nets, into),
         Op::Mul => combination(Op::Mul, cell, nets, into),
