@@ -12,7 +12,7 @@ use Rattle.circuit.specs.Output.{modulo, shifted, floor_by, formula, first, oper
 use Rattle.circuit.specs.declared.cell.Op.{Op}
 use Rattle.circuit.specs.declared.cell.Op.TheVariants as op
 use Rattle.cell_words.specs.Wholes.{magnitude}
-use Rattle.cell_words.specs.Kinds.{is_shift}
+use Rattle.cell_words.specs.Kinds.{is_one_sided, is_shift}
 use Rattle.cell_words.specs.Shifts.{extended, farthest, source, places, is_to_the_left, is_negative, is_below_zero, IsPlain}
 use Rattle.cell_words.proofs.Modulo.{modulo_is, is_product, is_lower, modulo_of}
 use Rattle.cell_words.proofs.Shifted.{none_left, none_right, is_itself, extended_is, extended_not, extended_below, moved_left, moved_right, moved_floor}
@@ -216,3 +216,11 @@ plain_far op.Sshr i number by k far p = sym (none_right 64 number by p.word (ome
 plain_far op.Shift i number by k far p = sym (none_right 64 number by p.word (omega (arith, far))) ∙ plain_right op.Shift i number by k (λ e. cc e) (λ e. cc e) p
 plain_far op.Shiftx i number by k far p = sym (none_right 64 number by p.word (omega (arith, far))) ∙ plain_right op.Shiftx i number by k (λ e. cc e) (λ e. cc e) p
 plain_far _ i number by k far p = absurd (cc)
+
+-- the sign of a second operand that has none
+pub unsigned_amount : (o : Op) (i : Inputs) → is_one_sided o ≡ true → formula o (record i { b_signed = false }) ≡ formula o i
+unsigned_amount op.Shl i kind = refl
+unsigned_amount op.Sshl i kind = refl
+unsigned_amount op.Shr i kind = refl
+unsigned_amount op.Sshr i kind = refl
+unsigned_amount _ i kind = absurd (cc kind)

@@ -44,5 +44,13 @@ is_shift op.Shift = true
 is_shift op.Shiftx = true
 is_shift _ = false
 
+-- shifts whose number of places has no sign
+abbrev pub is_one_sided : Op → Bool
+is_one_sided op.Shl = true
+is_one_sided op.Sshl = true
+is_one_sided op.Shr = true
+is_one_sided op.Sshr = true
+is_one_sided _ = false
+
 abbrev pub is_arithmetic_or_shift : Op → Bool
 is_arithmetic_or_shift o = is_arithmetic o || is_shift o

@@ -7,7 +7,7 @@ ghost use Rattle.circuit.specs.Signal.{sig_number, sig_value, sig_width};
 ghost use Rattle.circuit.specs.Valid.{widths_fit, widths_of};
 ghost use Rattle.signal_words.specs.Values.{digits_in, AreInside, IsSignalOf, IsWordOf};
 ghost use Rattle.signal_words.specs.Stores.{IsCellOf};
-ghost use Rattle.cell_words.specs.Kinds.{is_arithmetic, is_arithmetic_or_shift, is_comparison, is_modular, is_shift};
+ghost use Rattle.cell_words.specs.Kinds.{is_arithmetic, is_arithmetic_or_shift, is_comparison, is_modular, is_one_sided, is_shift};
 ghost use Rattle.cell_words.specs.Shifts.{is_below_zero, places};
 
 use crate::amount::{amount_of, is_below_zero};
@@ -16,7 +16,9 @@ use crate::narrow::is_below_zero as is_word_below_zero;
 use crate::port::{Port, port_of};
 use crate::shift::{moved_word, shift_of, shifted_plainly};
 use crate::source::{Source, fill};
-use crate::values::{combined, compared, digit, is_one_word, low_digits, only_word, put_only_word};
+use crate::values::{
+    combined, compared, digit, is_negative, is_one_word, low_digits, only_word, put_only_word,
+};
 use crate::write::{put_low, put_low_word};
 use circuit::{Cell, Op, Store};
 use signal_words::{SigWord, one_word, sig_width, whole_value, word_of};
@@ -352,17 +354,16 @@ fn shifted_parts(cell: &Cell, nets: &[Bits], into: &mut Bits) -> bool
     shifted(cell, nets, into)
 }
 
-/// A shift of a value of one word by another one, where neither is below 0.
+/// A shift of a value of one word by another one, where the first is not below 0.
 #[inline(always)]
 fn put_shifted(op: Op, cell: &Cell, nets: &[Bits], a: SigWord, b: SigWord, into: &mut Bits) -> bool
-    requires kind { is_shift op ≡ true }
+    requires kind { is_one_sided op ≡ true }
     requires op { cell.now.op ≡ op }
     requires some { 0 < cell.now.width }
     requires width { cell.now.width ≤ 64 }
     requires a { IsWordOf nets.now cell.now.a a.width a.number }
     requires b { IsWordOf nets.now cell.now.b b.width b.number }
     requires a_positive { is_below_zero cell.now.a_signed a.width a.number ≡ false }
-    requires b_positive { is_below_zero cell.now.b_signed b.width b.number ≡ false }
     requires into { into.old.width ≡ cell.now.width }
     ensures value { into.new ≡ bit_value cell.now.width (output (digits_in nets.now) cell.now) }
     ensures changed { result ≡ not (into.old.number == output (digits_in nets.now) cell.now) }
@@ -388,10 +389,10 @@ fn word_of_value(value: &Bits) -> SigWord
     }
 }
 
-/// A shift, and in one word where the ports are whole values of one word and neither is below 0.
+/// A shift, and in one word where the ports are whole values of one word and the first is not below 0.
 #[inline(always)]
 fn shift(op: Op, cell: &Cell, nets: &[Bits], into: &mut Bits) -> bool
-    requires kind { is_shift op ≡ true }
+    requires kind { is_one_sided op ≡ true }
     requires op { cell.now.op ≡ op }
     requires width { cell.now.width ≤ 65536 }
     requires a { IsSignalOf nets.now cell.now.a }
@@ -404,9 +405,7 @@ fn shift(op: Op, cell: &Cell, nets: &[Bits], into: &mut Bits) -> bool
         if let Some(b) = whole_value(cell.b.as_slice(), nets) {
             if is_one_word(into.width()) && is_one_word(a.width()) && is_one_word(b.width()) {
                 let (a, b) = (word_of_value(a), word_of_value(b));
-                let below = is_word_below_zero(a, cell.a_signed)
-                    || is_word_below_zero(b, cell.b_signed);
-                if !below {
+                if !is_negative(cell.a_signed, a.width, a.number) {
                     return put_shifted(op, cell, nets, a, b, into);
                 }
             }
