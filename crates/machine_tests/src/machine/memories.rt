@@ -91,13 +91,15 @@ pub fn check_seen(rt: &impl Abort, alloc: Global) -> Result<(), Fail> {
 
 /// The row has what was written after the sample of the edge.
 pub fn check_written(rt: &impl Abort, alloc: Global) -> Result<(), Fail> {
-    let samples = [
-        settles(&[0, 1, 0xA5], 1, &[0, 1, 0xA5, 0, 0]),
-        settles(&[1, 1, 0xA5], 2, &[1, 1, 0xA5, 0xA5, 0]),
-    ];
     let mut circuit = circuit_of(alloc, &[1, 1, 8, 8, 8], 3)?;
     push_read_and_written(alloc, &mut circuit)?;
-    check_row(rt, alloc, circuit, (0, 0xA5), &samples)
+    check_row(
+        rt,
+        alloc,
+        circuit,
+        (0, 0xA5),
+        [&[0, 1, 0xA5], &[1, 1, 0xA5]],
+    )
 }
 
 /// Two ports that write FF and 0, and one that reads without a clock.

@@ -87,17 +87,22 @@ fn settle_under<L: Ledger>(
     Ok(machine.settle(inputs.as_slice(), steps))
 }
 
-/// Settles under the inputs of each sample, and tells whether all that is wanted is seen.
+/// Settles under the inputs of each sample, and tells whether all that is wanted is seen, and before the first
+/// one nets with these numbers.
 fn goes_through<L: Ledger>(
     alloc: Global,
     circuit: &Circuit,
     machine: &mut Machine,
+    first: &[u64],
     samples: &[Sample],
     steps: &mut Steps<L>,
 ) -> Result<bool, Fail>
     requires { machine.old.circuit ≡ circuit.now }
     ensures { machine.new.circuit ≡ circuit.now }
 {
+    if !has_nets(circuit, machine, first) {
+        return Ok(false);
+    }
     for sample in samples {
         let settled = settle_under(alloc, circuit, machine, sample.inputs, steps)?;
         if !is_seen(circuit, machine, settled, sample.seen) {
@@ -107,7 +112,7 @@ fn goes_through<L: Ledger>(
     Ok(true)
 }
 
-/// The same with a new machine, whose nets have first these numbers.
+/// The same with a new machine.
 fn runs<L: Ledger>(
     alloc: Global,
     circuit: &Arc<Circuit>,
@@ -123,8 +128,7 @@ fn runs<L: Ledger>(
 {
     let mut machine = Machine::new(alloc, circuit.clone()?, plan)?;
     let mut steps = Steps::<L>::new(blank);
-    let begins = has_nets(circuit, &machine, first);
-    Ok(begins && goes_through(alloc, circuit, &mut machine, samples, &mut steps)?)
+    goes_through(alloc, circuit, &mut machine, first, samples, &mut steps)
 }
 
 /// The number of a row of the first memory, if there is such a row.
@@ -147,13 +151,31 @@ fn row_of(
     Ok(Some(number_of(&row)))
 }
 
-/// Whether row 2 of the first memory has these numbers before and after the samples.
+/// Whether row 2 of the first memory has one number before the first of two samples, and the other behind them.
 fn row_goes<L: Ledger>(
+    alloc: Global,
+    circuit: &Circuit,
+    machine: &mut Machine,
+    rows: (u64, u64),
+    inputs: [&[u64]; 2],
+    steps: &mut Steps<L>,
+) -> Result<bool, Fail>
+    requires { machine.old.circuit ≡ circuit.now }
+{
+    let before = row_of(alloc, circuit, machine, 2)?;
+    settle_under(alloc, circuit, machine, inputs[0], steps)?;
+    settle_under(alloc, circuit, machine, inputs[1], steps)?;
+    let after = row_of(alloc, circuit, machine, 2)?;
+    Ok(before == Some(rows.0) && after == Some(rows.1))
+}
+
+/// The same with a new machine.
+fn row_runs<L: Ledger>(
     alloc: Global,
     circuit: &Arc<Circuit>,
     plan: Plan,
     rows: (u64, u64),
-    samples: &[Sample],
+    inputs: [&[u64]; 2],
     blank: Blank,
 ) -> Result<bool, Fail>
     requires plan { IsPlanOf (arc_value circuit.now) plan }
@@ -163,10 +185,7 @@ fn row_goes<L: Ledger>(
 {
     let mut machine = Machine::new(alloc, circuit.clone()?, plan)?;
     let mut steps = Steps::<L>::new(blank);
-    let before = row_of(alloc, circuit, &machine, 2)?;
-    let goes = goes_through(alloc, circuit, &mut machine, samples, &mut steps)?;
-    let after = row_of(alloc, circuit, &machine, 2)?;
-    Ok(goes && before == Some(rows.0) && after == Some(rows.1))
+    row_goes(alloc, circuit, &mut machine, rows, inputs, &mut steps)
 }
 
 fn plan_of(alloc: Global, circuit: &Circuit) -> Result<Plan, Fail>
@@ -195,16 +214,16 @@ pub fn check(
     Ok(())
 }
 
-/// Checks that a circuit goes through these samples, and row 2 of its memory from one number to another.
+/// Checks that two samples take row 2 of the circuit's memory from one number to another.
 pub fn check_row(
     rt: &impl Abort,
     alloc: Global,
     circuit: Circuit,
     rows: (u64, u64),
-    samples: &[Sample],
+    inputs: [&[u64]; 2],
 ) -> Result<(), Fail> {
     let circuit = Arc::new(alloc, circuit)?;
     let plan = plan_of(alloc, &circuit)?;
-    assert!(rt; row_goes::<Brand>(alloc, &circuit, plan, rows, samples, Blank::new(1))?);
+    assert!(rt; row_runs::<Brand>(alloc, &circuit, plan, rows, inputs, Blank::new(1))?);
     Ok(())
 }
