@@ -9,6 +9,7 @@ mod Tested
 mod Slots
 pub mod Gathered
 mod Still
+mod Rounds
 mod Widths
 mod Below
 mod StateOf

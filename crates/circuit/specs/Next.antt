@@ -1,4 +1,7 @@
--- What registers, latches and memories have next: the cell library of the Yosys manual.
+-- What registers, latches and memories have next: the cell library of the Yosys manual. That an edge compares a clock with
+-- its value in the round before, that a read outside a memory gives 0 whatever is written there, that of several ports which
+-- write one bit the highest wins, also among those that a read port sees, and that the enable of a read port without a clock
+-- is not read, is this project's own choice.
 use Rattle.std.specs.Prelude.{ℕ, suc, ◌+◌, List, [], ◌∷◌, map, Bool, true, not, ◌&&◌, ◌==◌, Option, Some, None, unwrap_or, if◌then◌else◌}
 use Rattle.std.specs.Int.{bit_at}
 use Rattle.circuit.specs.Signal.{Digits, digits_of_nets, gathered, sig_number}

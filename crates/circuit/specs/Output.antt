@@ -1,4 +1,5 @@
--- What a combinational cell computes: the cell library of the Yosys manual.
+-- What a combinational cell computes: the cell library of the Yosys manual. That a zero divisor gives 0, that `$pmux` with
+-- several selected parts gives the lowest, and that `$shiftx` fills with 0 is this project's own choice.
 use Rattle.std.specs.Prelude.{◌⊎◌, ℕ, zero, suc, ◌+◌, ◌-◌, ◌*◌, ◌/◌, ◌%◌, ◌^◌, ◌==◌, max, ℤ, pos, negsuc, ◌+ℤ◌, ◌-ℤ◌, ◌*ℤ◌, neg_ℤ, int_lt, int_le, bit_and, bit_or, bit_xor, Bool, not, ◌&&◌, ◌||◌, if◌then◌else◌}
 use Rattle.std.specs.Int.{bit_at}
 use Rattle.sim_base.specs.BitValue.{BitValue}

@@ -1,5 +1,6 @@
--- Rounds, samples and what is shown at them.
-use Rattle.std.specs.Prelude.{ℕ, zero, suc, ◌-◌, ◌/◌, ◌%◌, ◌^◌, ◌==◌, List, [], ◌∷◌, length, map, Bool, false, not, ◌&&◌, ◌||◌, nat_lt, Option, Some, None, option_and_then, is_some, slice_get, slice_index, if◌then◌else◌}
+-- Rounds, samples and what is shown at them. The rounds are after Yosys CXXRTL; that there are at most 256 for a
+-- sample, that inputs were 0 before the first one, and when a diagnostic fires, is this project's own choice.
+use Rattle.std.specs.Prelude.{◌≡◌, ⊤, ℕ, zero, suc, ◌-◌, ◌/◌, ◌%◌, ◌^◌, ◌==◌, List, [], ◌∷◌, length, map, Bool, false, not, ◌&&◌, ◌||◌, nat_lt, Option, Some, None, option_and_then, is_some, slice_get, slice_index, if◌then◌else◌}
 use Rattle.std.specs.List.{list_any}
 use Rattle.sim_base.specs.declared.kinds.Kinds.{Kinds}
 use Rattle.circuit.specs.Signal.{Digits, digits_of_nets, sig_number}
@@ -101,6 +102,16 @@ rounds_from c (Some s) inputs = rounds_within 256 c s.state s.nets inputs
 abbrev pub rounds_at : Run → ℕ → List Round
 rounds_at run k = rounds_from run.circuit (standing_after run k) (run.row k).inputs
 
+-- each round begins with the valuation in which the one ahead of it ends
+unfoldable pub FollowOn : List ℕ → List Round → Type 0
+FollowOn before [] = ⊤
+FollowOn before (r ∷ rs) = (r.before ≡ before) × FollowOn r.now rs
+
+-- the valuation in which rounds end, or the one before them where there are none
+unfoldable pub nets_after : List ℕ → List Round → List ℕ
+nets_after before [] = before
+nets_after before (r ∷ rs) = nets_after r.now rs
+
 -- a diagnostic is enabled and does not hold
 abbrev pub fails : Diag → List ℕ → Bool
 fails d nets = sig_number (digits_of_nets nets) d.en == 1 && sig_number (digits_of_nets nets) d.a == 0
@@ -113,16 +124,10 @@ some_edge before now on i (rising ∷ rest) = (not (is_active_at rising before o
 abbrev pub is_triggered : Trigger → Round → Bool
 is_triggered t r = some_edge (digits_of_nets r.before) (digits_of_nets r.now) t.on 0 t.rising
 
-abbrev pub last_fails : Diag → List Round → Bool
-last_fails d rounds = fails d (now_of (slice_get rounds (length rounds - 1)))
-  where
-    now_of : Option Round → List ℕ
-    now_of None = []
-    now_of (Some r) = r.now
-
--- without a trigger a diagnostic is looked at in the last round, with one in each round in which it is triggered
+-- without a trigger a diagnostic is looked at in the nets in which the rounds end, with one in each round in which it is
+-- triggered
 abbrev pub fires_by : Option Trigger → Diag → List Round → Bool
-fires_by None d rounds = last_fails d rounds
+fires_by None d rounds = fails d (nets_after [] rounds)
 fires_by (Some t) d rounds = list_any (λ r. is_triggered t r && fails d r.now) rounds
 
 abbrev pub fires_at : Run → ℕ → Diag → Bool

@@ -3,7 +3,7 @@ use Rattle.std.specs.Prelude.{ℕ, ◌+◌, ◌-◌, List, Bool, ◌&&◌, nat_e
 use Rattle.std.specs.Cmp.Lexicographic.{pointwise}
 use Rattle.circuit.specs.declared.memory.Mem.{Mem}
 
--- the rows of one memory, and the value of each of its read ports that has a clock
+-- the rows of one memory, and a value for each of its read ports; one without a clock keeps its start value
 pub record Stored : Type 0 where
   pub rows : List ℕ
   pub reads : List ℕ

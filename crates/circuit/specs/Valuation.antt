@@ -1,4 +1,4 @@
--- The value of each bit of each net, from a state and the inputs.
+-- The value of each bit of each net, from a state and the inputs. That a bit without a driver is 0 is this project's own choice.
 use Rattle.std.specs.Prelude.{◌≡◌, ℕ, zero, suc, ◌+◌, ◌-◌, List, [], ◌∷◌, Bool, ◌&&◌, nat_eq, nat_le, nat_lt, Option, Some, None, find, slice_get, slice_index, sum_by, if◌then◌else◌}
 use Rattle.std.specs.Int.{bit_at}
 use Rattle.circuit.specs.Signal.{Digits, gathered, sig_number}

@@ -1,9 +1,10 @@
 -- Small circuits and what they do, worked by hand from the cell library. Laws say that the definitions give just this.
-use Rattle.std.specs.Prelude.{ℕ, List, [], ◌∷◌, map, Bool, true, false, None, pos, slice_index_or}
+use Rattle.std.specs.Prelude.{ℕ, List, [], ◌∷◌, map, Bool, true, false, Option, Some, None, pos, slice_index_or}
 use Rattle.sim_base.specs.BitValue.{BitValue, bit_value}
 use Rattle.circuit.specs.Output.{modulo, formula}
 use Rattle.circuit.specs.Next.{Asked}
-use Rattle.circuit.specs.Run.{Run, rounds_at, shown}
+use Rattle.sim_base.specs.declared.kinds.Kinds.{Kinds}
+use Rattle.circuit.specs.Run.{Run, hits, rounds_at, shown}
 use Rattle.circuit.specs.declared.netlist.Circuit.{Circuit}
 use Rattle.circuit.specs.declared.netlist.Net.{Net}
 use Rattle.circuit.specs.declared.netlist.Drive.{Drive}
@@ -22,6 +23,10 @@ use Rattle.circuit.specs.declared.memory.ReadPort.{ReadPort}
 use Rattle.circuit.specs.declared.memory.WritePort.{WritePort}
 use Rattle.circuit.specs.declared.item.Item.{Item}
 use Rattle.circuit.specs.declared.item.ItemKind.TheVariants as item
+use Rattle.circuit.specs.declared.diagnostic.Diag.{Diag}
+use Rattle.circuit.specs.declared.diagnostic.DiagKind.{DiagKind}
+use Rattle.circuit.specs.declared.diagnostic.DiagKind.TheVariants as diag
+use Rattle.circuit.specs.declared.diagnostic.Trigger.{Trigger}
 
 -- ---- one cell
 
@@ -55,6 +60,10 @@ fixed width number = piece.Const (bit_value width number) ∷ []
 
 abbrev pub node : ℕ → Item
 node net = record { name = []; scope = 0; kind = item.Node net (pos 0) false false; src = None; first_slot = net }
+
+-- a memory as an item that stands behind so many nodes
+abbrev pub rows_behind : ℕ → ℕ → Item
+rows_behind nodes mem = record { name = []; scope = 0; kind = item.Memory mem; src = None; first_slot = nodes }
 
 abbrev pub all_high : Polarity
 all_high = record { clk = true; en = true; set = true; clr = true; load = true }
@@ -162,6 +171,24 @@ written_twice = run_of (record (circuit_of (net_of 1 ∷ net_of 8 ∷ [])
     (driven_by 0 1 (by.Input 0 0) ∷ driven_by 1 8 (by.Read 0 0 0) ∷ []) [] [] (0 ∷ []) (node 0 ∷ node 1 ∷ []))
     { mems = record (four_rows (record (reader (false ∷ false ∷ [])) { clocked = false } ∷ []) (writer (fixed 8 255) (fixed 8 255) ∷ writer (fixed 8 255) (fixed 8 0) ∷ [])) { init = bit_value 32 0xAB0000 } ∷ [] })
     2 ((0 ∷ []) ∷ (1 ∷ []) ∷ [])
+
+-- a diagnostic that wants net 1 to be 1
+abbrev pub wanted : DiagKind → Option Trigger → Diag
+wanted kind trigger = record { kind = kind; text = []; src = None; a = whole 1 1; en = fixed 1 1; trigger = trigger }
+
+-- a register that takes 1 (net 1) at its clock (net 0); a memory whose row 2 takes 0x5A at the same edge; and two diagnostics
+-- that want the register to be 1, an assertion at each sample and an assumption at each edge of the clock
+abbrev pub watched : Run
+watched = run_of (record (circuit_of (net_of 1 ∷ net_of 1 ∷ []) (driven_by 0 1 (by.Input 0 0) ∷ driven_by 1 1 (by.Reg 0 0) ∷ []) []
+    (flip_flop (whole 0 1) (fixed 1 1) ∷ []) (0 ∷ []) (node 0 ∷ node 1 ∷ rows_behind 2 0 ∷ [])) {
+      mems = record (four_rows [] (writer (fixed 8 255) (fixed 8 0x5A) ∷ [])) { init = bit_value 32 0xAB0000 } ∷ [];
+      diags = wanted diag.Assert None ∷ wanted diag.Assume (Some (record { on = whole 0 1; rising = true ∷ [] })) ∷ [];
+    })
+    4 ((0 ∷ []) ∷ (1 ∷ []) ∷ (0 ∷ []) ∷ (1 ∷ []) ∷ [])
+
+-- whether a diagnostic of these kinds fires at the first samples
+abbrev pub hit_at : Bool → Bool → List ℕ → List Bool
+hit_at asserts assumes samples = map (λ k. hits watched k (record { asserts = asserts; assumes = assumes })) samples
 
 -- ---- registers at an edge, with these ports
 

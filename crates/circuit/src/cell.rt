@@ -2,7 +2,9 @@
 use crate::netlist::Piece;
 use sqlite_items::Items;
 
-/// What a combinational cell computes: the cell library of the Yosys manual.
+/// What a combinational cell computes: the cell library of the Yosys manual. That a zero divisor gives 0, that
+/// `$pmux` with several selected parts gives the lowest, and that `$shiftx` fills with 0 is this project's own
+/// choice.
 #[derive(Clone, Copy, Debug, PartialEq, Eq)]
 pub enum Op {
     /// `$not`
@@ -106,6 +108,6 @@ pub struct Cell {
     pub b_signed: bool,
     /// The width of the output in bits.
     pub width: u32,
-    /// The first bit that a `$slice` takes; 0 for every other type.
+    /// The first bit that a `$slice` takes. No other type reads it.
     pub offset: u32,
 }

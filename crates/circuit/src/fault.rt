@@ -4,9 +4,12 @@ ghost use Rattle.circuit.specs.Fault.{fault_name, fault_number};
 
 use sim_base::Name;
 use sqlite_items::Items;
+use thiserror::Error;
 
-/// Why a design has no circuit, or a circuit no order.
-#[derive(Debug, Drop)]
+/// Why a design has no circuit, or a circuit no order. It is shown by its kind; the place is in bytes, which need not
+/// be text.
+#[derive(Debug, Drop, Error)]
+#[error("{kind}")]
 pub struct DesignFault {
     pub kind: DesignKind,
     /// The module's identifier, a space, and the identifier of the wire or cell, or the word `connect`.
@@ -29,40 +32,59 @@ pub struct BitAt {
 }
 
 /// What is wrong with a design.
-#[derive(Clone, Copy, Debug, PartialEq, Eq)]
+#[derive(Clone, Copy, Debug, PartialEq, Eq, Error)]
 pub enum DesignKind {
     /// The module that is to be the top is not there; or none was named, no module has a `\top` that is
     /// not zero, and there is not exactly one module.
+    #[error("no module is the top")]
     NoTop,
     /// No top was named, and several modules have a `\top` that is not zero.
+    #[error("several modules are the top")]
     ManyTops,
     /// A cell's type has no such port, or a wire is not there.
+    #[error("a name that is not there")]
     UnknownName,
     /// A module, a wire, a cell, a memory, or a parameter or port of a cell has the name of an earlier one.
+    #[error("a name that stands twice")]
     DuplicateName,
     /// The type of a cell is no module of the file and no known type.
+    #[error("a cell of an unknown type")]
     UnknownCell,
-    /// A parameter of a cell is missing or out of its range, or an instance of a module has parameters.
+    /// A parameter of a cell is missing or out of its range, a `$slice` takes bits beyond its operand, a read
+    /// port of a memory has a reset that is not constant 0, or an instance of a module has parameters.
+    #[error("a parameter that is missing, out of range or not taken")]
     BadParameter,
     /// A slice is outside its signal, or a signal has another width than what it is joined to.
+    #[error("a width that does not fit")]
     Width,
     /// A wire is `inout`, or both `input` and `output`.
+    #[error("a wire of no one direction")]
     Inout,
     /// A wire or a port has more than 65,536 bits.
+    #[error("more than 65536 bits")]
     TooWide,
     /// A port of an arithmetic cell has more than 128 bits.
+    #[error("more than 128 bits at an arithmetic cell")]
     ArithTooWide,
     /// A module is an instance inside itself.
+    #[error("a module inside itself")]
     RecursiveModules,
-    /// The design has more parts than a circuit can name.
+    /// The design is over a limit: 1,000,000 nets, or as many cells, registers, memories, diagnostics and
+    /// instances together; 16,777,216 bits of all nets; 67,108,864 bits or rows of all memories;
+    /// 4,294,967,295 bytes of an item's name or of a diagnostic's text.
+    #[error("more parts than are taken")]
     TooLarge,
     /// The left side of a `connect` holds a constant.
+    #[error("a constant that would be driven")]
     ConstTarget,
     /// Two drives share a bit.
+    #[error("two drivers of one bit")]
     TwoDrivers,
     /// A bit depends on itself.
+    #[error("a bit that depends on itself")]
     CombLoop,
     /// The allocator had no memory.
+    #[error("out of memory")]
     NoMemory,
 }
 

@@ -8,12 +8,13 @@ ghost use Rattle.circuit.specs.declared.netlist.Circuit.{Circuit};
 ghost use Rattle.circuit.specs.declared.netlist.Net.{Net};
 ghost use Rattle.circuit.specs.State.{State, same_state};
 ghost use Rattle.circuit.specs.Valuation.{IsValuation, valuation, covers, digit_at, given};
-ghost use Rattle.circuit.specs.Run.{Run, Standing, run_length, settled, shown, standing_after, standing_at, start_state};
+ghost use Rattle.circuit.specs.Run.{FollowOn, Run, Standing, fails, fires_at, nets_after, rounds_from, run_length, settled, shown, standing_after, standing_at, start_state};
 ghost use Rattle.circuit.specs.Free.{IsInOrder};
 ghost use Rattle.circuit.specs.Slots.{slot_widths};
 ghost use Rattle.circuit.specs.Valid.{is_valid};
 ghost use Rattle.circuit.specs.StateOf.{IsStateOf};
 ghost use Rattle.circuit.specs.Below.{AreRowsBelow, AreValuesBelow, IsStateBelow};
+ghost use Rattle.circuit.specs.declared.diagnostic.Diag.{Diag};
 ghost use Rattle.circuit.specs.declared.netlist.Drive.{Drive};
 
 use crate::netlist::Circuit;
@@ -45,6 +46,22 @@ pub fn length_of_run()
 pub fn law_of_settling()
     ensures nets { (c : Circuit) (s t : Standing) (inputs : List ℕ) → settled c s inputs ≡ Some t → t.nets ≡ valuation c t.state inputs }
     ensures still { (c : Circuit) (s t : Standing) (inputs : List ℕ) → settled c s inputs ≡ Some t → same_state (next c t.state t.nets t.nets) t.state ≡ true }
+{}
+
+/// The rounds of a sample, at most 256: the first begins with the nets as the sample before it left them, each
+/// other one with the nets of the round ahead of it. Where the sample settles, the last round ends with the
+/// nets that the sample leaves; where it does not, there are 256.
+pub fn law_of_succession()
+    ensures follow { (c : Circuit) (s : Standing) (inputs : List ℕ) → FollowOn s.nets (rounds_from c (Some s) inputs) }
+    ensures end { (c : Circuit) (s t : Standing) (inputs : List ℕ) → settled c s inputs ≡ Some t → nets_after s.nets (rounds_from c (Some s) inputs) ≡ t.nets }
+    ensures most { (c : Circuit) (s : Standing) (inputs : List ℕ) → length (rounds_from c (Some s) inputs) ≤ 256 }
+    ensures unsettled { (c : Circuit) (s : Standing) (inputs : List ℕ) → settled c s inputs ≡ None → length (rounds_from c (Some s) inputs) ≡ 256 }
+{}
+
+/// A diagnostic without a trigger fires exactly where it is enabled and does not hold in the nets that the
+/// sample leaves.
+pub fn law_of_diagnostics()
+    ensures { (run : Run) (k : ℕ) (s : Standing) (d : Diag) → d.trigger ≡ None → standing_at run k ≡ Some s → fires_at run k d ≡ fails d s.nets }
 {}
 
 /// The output of a cell depends on nothing but the bits that it reads.

@@ -1,5 +1,5 @@
-//! What a circuit is and what it means: nets and what drives them, cells, registers, inputs, items
-//! and scopes, and the value of every bit after every sample.
+//! What a circuit is and what it means: nets and what drives them, cells, registers, memories, inputs,
+//! items, scopes and diagnostics, and the value of every bit after every sample.
 #![tactic(auto)]
 
 mod cell;
@@ -21,8 +21,8 @@ pub use diagnostic::{Diag, DiagKind, Trigger};
 pub use fault::{BitAt, DesignFault, DesignKind};
 pub use item::{Item, ItemKind, Scope};
 pub use laws::{
-    law_of_keeping, law_of_places, law_of_reading, law_of_settling, law_of_showing, law_of_widths,
-    length_of_run, one_valuation,
+    law_of_diagnostics, law_of_keeping, law_of_places, law_of_reading, law_of_settling,
+    law_of_showing, law_of_succession, law_of_widths, length_of_run, one_valuation,
 };
 pub use memory::{Mem, ReadPort, WritePort};
 pub use netlist::{By, Circuit, Drive, Net, Piece, Sig};
@@ -31,4 +31,5 @@ pub use store::Store;
 pub use values::Values;
 pub use worked::{
     worked_arithmetic, worked_registers, worked_rounds, worked_runs, worked_selections,
+    worked_slots,
 };

@@ -3,7 +3,8 @@ use crate::netlist::Piece;
 use sim_base::Bits;
 use sqlite_items::Items;
 
-/// A memory of rows. Row r stands for the address r + `offset`.
+/// A memory of rows, `$mem_v2` in the cell library of the Yosys manual. Row r stands for the address r +
+/// `offset`; a read outside gives 0, which is this project's own choice.
 #[derive(Debug, Drop)]
 pub struct Mem {
     /// Of a row, in bits.

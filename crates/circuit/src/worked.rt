@@ -3,7 +3,7 @@ ghost use Rattle.std.specs.Prelude.{◌≡◌, [], ◌∷◌, ◌-◌, ◌*◌, 
 ghost use Rattle.sim_base.specs.BitValue.{bit_value};
 ghost use Rattle.circuit.specs.Next.{next_by};
 ghost use Rattle.circuit.specs.Run.{rounds_at, run_length};
-ghost use Rattle.circuit.specs.Worked.{binary, unary, selected, traced, nets_in_rounds, already_high, chained, derived_clock, restless, read_and_written, written_twice, at_edge};
+ghost use Rattle.circuit.specs.Worked.{binary, unary, selected, traced, nets_in_rounds, already_high, chained, derived_clock, restless, read_and_written, written_twice, watched, hit_at, at_edge};
 ghost use Rattle.circuit.specs.declared.cell.Op.TheVariants as op;
 ghost use Rattle.circuit.specs.declared.register.RegKind.TheVariants as kind;
 
@@ -54,6 +54,20 @@ pub fn worked_runs()
     ensures transparent { traced read_and_written (1 ∷ 3 ∷ []) 1 ≡ 0xA5 ∷ 0xA5 ∷ [] }
     ensures old_row { traced read_and_written (1 ∷ 3 ∷ []) 2 ≡ 0 ∷ 0xA5 ∷ [] }
     ensures highest_port { traced written_twice (0 ∷ 1 ∷ []) 1 ≡ 0xAB ∷ 0 ∷ [] }
+{}
+
+/// What slots show of a register, of the rows of a memory, of an assertion without a trigger and of an
+/// assumption with one, and where these two are hit.
+pub fn worked_slots()
+    ensures register { traced watched (0 ∷ 1 ∷ 2 ∷ 3 ∷ []) 1 ≡ 0 ∷ 1 ∷ 1 ∷ 1 ∷ [] }
+    ensures other_row { traced watched (0 ∷ 1 ∷ 2 ∷ 3 ∷ []) 3 ≡ 0 ∷ 0 ∷ 0 ∷ 0 ∷ [] }
+    ensures row { traced watched (0 ∷ 1 ∷ 2 ∷ 3 ∷ []) 4 ≡ 0xAB ∷ 0x5A ∷ 0x5A ∷ 0x5A ∷ [] }
+    ensures assertion { traced watched (0 ∷ 1 ∷ 2 ∷ 3 ∷ []) 6 ≡ 1 ∷ 0 ∷ 0 ∷ 0 ∷ [] }
+    ensures assumption { traced watched (0 ∷ 1 ∷ 2 ∷ 3 ∷ []) 7 ≡ 0 ∷ 1 ∷ 0 ∷ 0 ∷ [] }
+    ensures no_slot { traced watched (0 ∷ 1 ∷ []) 8 ≡ 0 ∷ 0 ∷ [] }
+    ensures assert_hits { hit_at true false (0 ∷ 1 ∷ 2 ∷ []) ≡ true ∷ false ∷ false ∷ [] }
+    ensures assume_hits { hit_at false true (0 ∷ 1 ∷ 2 ∷ []) ≡ false ∷ true ∷ false ∷ [] }
+    ensures no_hits { hit_at false false (0 ∷ 1 ∷ 2 ∷ []) ≡ false ∷ false ∷ false ∷ [] }
 {}
 
 /// The rounds of one sample. Behind a clock that a register gives, a register changes one round after it,
