@@ -6,8 +6,9 @@ mod parts;
 mod signals;
 mod whole;
 
-use circuit::{DesignKind, Store};
-use sim_base::{Bits, NoMemory};
+use circuit::{DesignFault, DesignKind, Store};
+use sim_base::{Bits, Name, NoMemory};
+use sqlite_items::Items;
 use std::alloc::Global;
 use std::process::Abort;
 use std::test::Fail;
@@ -120,4 +121,43 @@ fn faults_have_their_numbers_and_names(rt: HostRuntime) {
         assert_eq!(rt; kind.number(), number, "{name}");
         assert_eq!(rt; kind.name(), name);
     }
+}
+
+#[test]
+fn faults_are_shown_in_words(rt: HostRuntime) -> Result<(), Fail> {
+    let rows: [(DesignKind, &str); 16] = [
+        (DesignKind::NoTop, "no module is the top"),
+        (DesignKind::ManyTops, "several modules are the top"),
+        (DesignKind::UnknownName, "a name that is not there"),
+        (DesignKind::DuplicateName, "a name that stands twice"),
+        (DesignKind::UnknownCell, "a cell of an unknown type"),
+        (
+            DesignKind::BadParameter,
+            "a parameter that is missing, out of range or not taken",
+        ),
+        (DesignKind::Width, "a width that does not fit"),
+        (DesignKind::Inout, "a wire of no one direction"),
+        (DesignKind::TooWide, "more than 65536 bits"),
+        (
+            DesignKind::ArithTooWide,
+            "more than 128 bits at an arithmetic cell",
+        ),
+        (DesignKind::RecursiveModules, "a module inside itself"),
+        (DesignKind::TooLarge, "more parts than are taken"),
+        (DesignKind::ConstTarget, "a constant that would be driven"),
+        (DesignKind::TwoDrivers, "two drivers of one bit"),
+        (DesignKind::CombLoop, "a bit that depends on itself"),
+        (DesignKind::NoMemory, "out of memory"),
+    ];
+    for (kind, text) in rows {
+        let fault = DesignFault {
+            kind,
+            place: Name::copy_of(rt.alloc(), b"\\top \\x")?,
+            bits: Items::new(rt.alloc()),
+            drives: Items::new(rt.alloc()),
+        };
+        assert_eq!(rt; kind.to_string(rt.alloc())?.as_str(), text);
+        assert_eq!(rt; fault.to_string(rt.alloc())?.as_str(), text);
+    }
+    Ok(())
 }
