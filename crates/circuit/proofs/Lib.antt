@@ -9,7 +9,7 @@ mod Tested
 mod Slots
 pub mod Gathered
 mod Still
-mod Rounds
+pub mod Rounds
 mod Widths
 mod Below
 mod StateOf

@@ -1,6 +1,6 @@
 -- The rounds of a sample, and its last one.
 use Rattle.std.proofs.Common.{◌≡◌, ℕ, zero, suc, ◌+◌, ◌≤◌, cond, List, [], ◌∷◌, length, refl, sym, ◌∙◌, ap, arith, Bool, true, false, ◌&&◌, Option, Some, None}
-use Rattle.std.specs.Prelude.{is_some, option_and_then}
+use Rattle.std.specs.Prelude.{◌-◌, is_some, option_and_then, slice_get}
 use Rattle.std.proofs.lemmas.Option.{none-some, same_Some}
 use Rattle.circuit.specs.State.{State, same_state}
 use Rattle.circuit.specs.Valuation.{valuation}
@@ -92,3 +92,12 @@ fires_untriggered run k s d none is =
     ap (λ (t : Option Standing). is_some t && fires_by d.trigger d (rounds_at run k)) is
     ∙ ap (λ (t : Option Trigger). fires_by t d (rounds_at run k)) none
     ∙ ap (fails d) (ends_from run.circuit (standing_after run k) (run.row k).inputs s is)
+
+-- the nets in which rounds end are those of the last one
+pub last_nets : (before : List ℕ) (rs : List Round) (r : Round) → slice_get rs (length rs - 1) ≡ Some r → nets_after before rs ≡ r.now
+unfolding nets_after
+last_nets before [] r e = absurd (none-some r e)
+last_nets before (q ∷ []) r e = ap (λ (x : Round). x.now) (same_Some q r e)
+last_nets before (q ∷ p ∷ rs) r e =
+    let k : suc (suc (length rs) - 1) ≡ suc (suc (length rs)) - 1 = omega arith in
+    last_nets q.now (p ∷ rs) r (ap (slice_get (q ∷ p ∷ rs)) k ∙ e)
