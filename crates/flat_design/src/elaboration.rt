@@ -1,3 +1,4 @@
+//! The circuit of a flat module, part by part.
 ghost use Rattle.std.specs.Prelude.{◌≡◌, ◌≢◌, Some, None, IfOk, Err};
 ghost use Rattle.std.specs.List.{list_all};
 ghost use Rattle.flat_design.specs.Wires.{is_wire};
