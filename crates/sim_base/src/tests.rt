@@ -5,7 +5,7 @@ ghost use Rattle.sim_base.specs.BitValue.{zeros};
 use crate::{Bits, Kinds, Name, NoMemory, Shape, Steps, Time, write_lowest_digits};
 use std::alloc::Global;
 use std::marker::Brand;
-use std::sync::ledger::{Blank, Ledger};
+use std::sync::ledger::{Blank, Book, Ledger, Share};
 use std::test::Fail;
 
 #[test]
@@ -252,4 +252,37 @@ fn zeros_uncounted<L: Ledger>(bytes: &[u8], blank: Blank) -> usize
 #[test]
 fn steps_are_counted_or_not(rt: HostRuntime) {
     assert_eq!(rt; zeros_uncounted::<Brand>(&[0, 1, 0], Blank::new(1)), 2);
+}
+
+/// How many zeros there are, with the steps in a book.
+fn zeros_by_book<L: Ledger>(bytes: &[u8], book: Book<L>, share: Share<L>) -> (usize, Book<L>)
+    requires { 0 < share.parts }
+    ensures { result.1.total ≡ book.total + 2 * length bytes.now }
+{
+    let mut steps = Steps::of(book, share);
+    let count = zeros_twice(bytes, &mut steps);
+    let (book, _) = steps.into_book();
+    (count, book)
+}
+
+/// A caller that has a book of its own.
+fn zeros_in_new_book<L: Ledger>(bytes: &[u8], blank: Blank) -> usize
+    requires name { blank.name ≡ L.name }
+    requires parts { blank.parts ≡ L.parts }
+    requires some { 0 < blank.parts }
+{
+    let (book, share) = blank.open::<L>();
+    zeros_by_book(bytes, book, share).0
+}
+
+#[test]
+fn steps_go_on_in_a_book(rt: HostRuntime) {
+    assert_eq!(rt; zeros_in_new_book::<Brand>(&[0, 1, 0], Blank::new(1)), 2);
+}
+
+#[test]
+fn want_of_memory_has_a_text(rt: HostRuntime) -> Result<(), Fail> {
+    let text = format!(in rt.alloc(); "{NoMemory}")?;
+    assert_eq!(rt; text.as_str(), "out of memory");
+    Ok(())
 }

@@ -69,6 +69,7 @@ impl Time {
         Time::of(seconds as u128 * SECOND + digits as u128 * 10u128.pow(missing as u32))
     }
 
+    /// The number of femtoseconds after the start of the run.
     pub fn femtoseconds(&self) -> u128
         ensures value { result ≡ self.now }
         ensures most { result ≤ largest_time }
