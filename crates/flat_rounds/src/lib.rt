@@ -3,7 +3,9 @@
 
 mod clock;
 mod nets;
+mod room;
 mod rounds;
 mod word;
 
+pub use room::zeros;
 pub use rounds::Rounds;

@@ -1,5 +1,5 @@
 //! Rounds and samples of a flat circuit.
-ghost use Rattle.std.specs.Prelude.{◌≡◌, ℕ, ◌<◌, true, false, Some, None, IfOk, length, replicate, slice_index};
+ghost use Rattle.std.specs.Prelude.{◌≡◌, ℕ, ◌<◌, true, false, Some, None, IfOk, length, slice_index};
 ghost use Rattle.circuit.specs.Next.{next};
 ghost use Rattle.circuit.specs.Run.{settled, start, start_state};
 ghost use Rattle.circuit.specs.State.{same_state};
@@ -10,6 +10,7 @@ ghost use Rattle.flat_rounds.specs.Pass.{AreRegNumbers};
 
 use crate::clock::clock;
 use crate::nets::evaluate;
+use crate::room::zeros;
 use circuit::Circuit;
 use sim_base::NoMemory;
 use std::alloc::Global;
@@ -83,7 +84,8 @@ impl Rounds {
         self.regs == self.next_regs
     }
 
-    /// Goes on by one sample, where it settles within 256 rounds.
+    /// Goes on by one sample, and answers whether it settles within 256 rounds. Where it does not, each of
+    /// these changed a register; the circuit stands then as the last of them left it, which no clause says.
     pub fn sample(&mut self, circuit: &Circuit, inputs: &[u64]) -> bool
         requires flat { IsFlat circuit.now }
         requires fits { IsStandingOf circuit.now self.old }
@@ -107,12 +109,6 @@ impl Rounds {
     {
         self.nets[n as usize]
     }
-}
-
-fn zeros(alloc: Global, count: usize) -> Result<Vec<u64>, NoMemory>
-    ensures { IfOk result (λ v. v.items ≡ replicate count 0) }
-{
-    Ok(vec![in alloc; 0u64; count]?)
 }
 
 /// The start values of the registers.

@@ -8,7 +8,7 @@ use Rattle.flat_rounds.proofs.rounds.Rounds.new.Goals as goal
 
 pub evaluate-requires-clause-inputs : goal.evaluate-requires-clause-inputs
 evaluate-requires-clause-inputs c =
-    subst (AreInputs c.args.circuit.now) (sym (c.deref.ensures.value ∙ c.in_ok-inputs.ensures ∙ ap (λ n. replicate n 0) c.len-2.ensures)) (zeros_inputs c.args.circuit.now)
+    subst (AreInputs c.args.circuit.now) (sym (c.deref.ensures.value ∙ c.in_ok-inputs.ensures.words ∙ ap (λ n. replicate n 0) c.len-2.ensures)) (zeros_inputs c.args.circuit.now)
 
 pub returns-clause-start : goal.returns-clause-start
 returns-clause-start c =
@@ -17,4 +17,4 @@ returns-clause-start c =
     (c.evaluate.ensures.valuation
     ∙ ap (λ rs. valuation c.args.circuit.now (record { regs = rs; mems = [] }) c.deref.result.now) (c.deref-2.ensures.value ∙ c.in_ok-regs.ensures.numbers)
     ∙ ap (λ ms. valuation c.args.circuit.now (record { regs = (start_state c.args.circuit.now).regs; mems = ms }) c.deref.result.now) (none_at_start c.args.circuit.now c.requires.mems)
-    ∙ ap (valuation c.args.circuit.now (start_state c.args.circuit.now)) (c.deref.ensures.value ∙ c.in_ok-inputs.ensures ∙ ap (λ n. replicate n 0) c.len-2.ensures ∙ zeros_mapped c.args.circuit.now.inputs))
+    ∙ ap (valuation c.args.circuit.now (start_state c.args.circuit.now)) (c.deref.ensures.value ∙ c.in_ok-inputs.ensures.words ∙ ap (λ n. replicate n 0) c.len-2.ensures ∙ zeros_mapped c.args.circuit.now.inputs))
