@@ -7,7 +7,7 @@ ghost use Rattle.flat_run.specs.Run.{AreSamples, run_under};
 ghost use Rattle.flat_stimulus.specs.Block.{row_of, sample_count};
 
 use circuit::{Circuit, length_of_run};
-use flat_rounds::Rounds;
+use flat_rounds::{Rounds, zeros};
 use flat_stimulus::FlatStimulus;
 use sim_base::NoMemory;
 use std::alloc::Global;
@@ -85,12 +85,4 @@ fn read_row(stimulus: &FlatStimulus, k: u64, inputs: &mut Vec<u64>)
     ensures inputs { inputs.new.items ≡ (row_of stimulus.now k).inputs }
 {
     stimulus.row(k, inputs);
-}
-
-/// So many words that are 0.
-fn zeros(alloc: Global, count: usize) -> Result<Vec<u64>, NoMemory>
-    ensures { IfOk result (λ words. length words.items ≡ count) }
-{
-    let words = vec![in alloc; 0u64; count]?;
-    Ok(words)
 }
