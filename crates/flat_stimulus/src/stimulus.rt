@@ -226,7 +226,8 @@ fn read_block(
     limit(repeats, period, rows, Items::from_vec(numbers))
 }
 
-/// Reads a stimulus of one block for a circuit.
+/// Reads a stimulus of one block for a circuit. `NotBuilt` comes exactly where the text has none for this
+/// circuit, and `NoMemory` where memory runs out.
 pub fn read_stimulus(
     alloc: Global,
     text: &[u8],
