@@ -260,3 +260,19 @@ fn the_standard_input_comes_to_its_end(rt: HostRuntime) {
         (Got::End, b"".as_slice())
     );
 }
+
+#[test]
+fn faults_have_texts(rt: HostRuntime) -> Result<(), Fail> {
+    let rows: [(ShelfFault, &str); 3] = [
+        (ShelfFault::Failed, "a file could not be read or written"),
+        (ShelfFault::TooLong, "a file is too long"),
+        (ShelfFault::NoMemory, "out of memory"),
+    ];
+    for (fault, want) in rows {
+        let text = format!(in rt.alloc(); "{fault}")?;
+        assert_eq!(rt; text.as_str(), want);
+    }
+    let text = format!(in rt.alloc(); "{SinkFault}")?;
+    assert_eq!(rt; text.as_str(), "a sink failed");
+    Ok(())
+}
