@@ -4,7 +4,11 @@
 #[cfg(test)]
 mod designs;
 #[cfg(test)]
+mod refusals;
+#[cfg(test)]
 mod rounds;
+#[cfg(test)]
+mod rows;
 #[cfg(test)]
 mod runs;
 #[cfg(test)]

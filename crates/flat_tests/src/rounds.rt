@@ -1,3 +1,4 @@
+//! Small circuits, from sample to sample.
 ghost use Rattle.std.specs.Prelude.{◌≡◌, ℕ, ◌∷◌, [], ◌≤◌, true, false, IfOk};
 ghost use Rattle.sim_base.specs.BitValue.{bit_value, zeros};
 ghost use Rattle.flat_design.specs.Cells.{rising_edge};

@@ -8,6 +8,7 @@ use flat_stimulus::read_stimulus;
 use flat_text::{FlatFault, read_module};
 use sim_base::Time;
 use std::alloc::{AllocError, Global};
+use std::process::Abort;
 use std::test::Fail;
 
 /// Its inputs are `b` and `a`, its columns `a` and `b`.
@@ -137,11 +138,20 @@ fn is_refused(alloc: Global, circuit: &Circuit, text: &str) -> bool
     matches!(&read, Err(FlatFault::NotBuilt))
 }
 
-#[test]
-fn blocks_of_other_forms_are_refused(rt: HostRuntime) -> Result<(), Fail> {
+/// No text with one of these blocks is read.
+fn check_refused<R: AllocGlobal + Abort>(rt: &R, blocks: &[&str]) -> Result<(), Fail> {
     let alloc = rt.alloc();
     let circuit = circuit(alloc)?;
-    for lines in [
+    for lines in blocks {
+        let text = text_of(alloc, lines)?;
+        assert!(rt; is_refused(alloc, &circuit, &text), "{lines}");
+    }
+    Ok(())
+}
+
+#[test]
+fn blocks_of_other_forms_are_refused(rt: HostRuntime) -> Result<(), Fail> {
+    let blocks = [
         // times
         "block 1 0.5\n0.5 0 0\nend\n",
         "block 1 0.5\n0.25 0 0\n0.25 0 0\nend\n",
@@ -158,6 +168,13 @@ fn blocks_of_other_forms_are_refused(rt: HostRuntime) -> Result<(), Fail> {
         "block 16777217 0.000000000000001\n0.0 0 0\nend\n",
         "block 4294967296 0.000000000000001\n0.0 0 0\nend\n",
         "block 00000000001 0.5\n0.0 0 0\nend\n",
+    ];
+    check_refused(&rt, &blocks)
+}
+
+#[test]
+fn lines_of_other_forms_are_refused(rt: HostRuntime) -> Result<(), Fail> {
+    let blocks = [
         // lines
         "",
         "block 1 0.5\nend\n",
@@ -171,11 +188,11 @@ fn blocks_of_other_forms_are_refused(rt: HostRuntime) -> Result<(), Fail> {
         "block  1 0.5\n0.0 0 0\nend\n",
         "block 1 0.5 \n0.0 0 0\nend\n",
         "block 1 0.5\n 0.0 0 0\nend\n",
-    ] {
-        let text = text_of(alloc, lines)?;
-        assert!(rt; is_refused(alloc, &circuit, &text), "{lines}");
-    }
-    Ok(())
+        "block\t1 0.5\n0.0 0 0\nend\n",
+        "block 1 0.5\n0.0\t0 0\nend\n",
+        "block 1 0.5\n\t0.0 0 0\nend\n",
+    ];
+    check_refused(&rt, &blocks)
 }
 
 #[test]
