@@ -112,6 +112,7 @@ pub(crate) fn run<S: Shelf, I: Source, O: Sink, G: Sink>(
     ensures went { WentBy (task limit (around (S.file shelf.old) (S.read_faults shelf.old) (S.read_faults shelf.new) (told (I.left input.old) (I.left input.new) (I.faults input.old) (I.faults input.new)) (told (O.held out.old) (O.held out.new) (O.faults out.old) (O.faults out.new)) (told (G.held log.old) (G.held log.new) (G.faults log.old) (G.faults log.new))) command.now) command.now.mode result }
     ensures later { IsLater (around (S.file shelf.old) (S.read_faults shelf.old) (S.read_faults shelf.new) (told (I.left input.old) (I.left input.new) (I.faults input.old) (I.faults input.new)) (told (O.held out.old) (O.held out.new) (O.faults out.old) (O.faults out.new)) (told (G.held log.old) (G.held log.new) (G.faults log.old) (G.faults log.new))) }
     ensures files { (other : List ℕ) → S.file shelf.new other ≡ S.file shelf.old other }
+    ensures writes { S.write_faults shelf.new ≡ S.write_faults shelf.old }
 {
     let design = given(&command.design);
     let stimulus = given(&command.stimulus);
@@ -137,6 +138,7 @@ fn call<S: Shelf, I: Source, O: Sink, G: Sink>(
     ensures went { Went file_limit (command_of (map string_bytes words.now)) (around (S.file shelf.old) (S.read_faults shelf.old) (S.read_faults shelf.new) (told (I.left input.old) (I.left input.new) (I.faults input.old) (I.faults input.new)) (told (O.held out.old) (O.held out.new) (O.faults out.old) (O.faults out.new)) (told (G.held log.old) (G.held log.new) (G.faults log.old) (G.faults log.new))) result }
     ensures later { IsLater (around (S.file shelf.old) (S.read_faults shelf.old) (S.read_faults shelf.new) (told (I.left input.old) (I.left input.new) (I.faults input.old) (I.faults input.new)) (told (O.held out.old) (O.held out.new) (O.faults out.old) (O.faults out.new)) (told (G.held log.old) (G.held log.new) (G.faults log.old) (G.faults log.new))) }
     ensures files { (other : List ℕ) → S.file shelf.new other ≡ S.file shelf.old other }
+    ensures writes { S.write_faults shelf.new ≡ S.write_faults shelf.old }
 {
     match read_words(alloc, words) {
         Ok(command) => run(alloc, &command, FILE_LIMIT, shelf, input, out, log),
@@ -163,6 +165,7 @@ pub fn solo<S: Shelf, I: Source, O: Sink, G: Sink>(
     ensures answered { IsAnswered file_limit (Some command.now) (around (S.file shelf.old) (S.read_faults shelf.old) (S.read_faults shelf.new) (told (I.left input.old) (I.left input.new) (I.faults input.old) (I.faults input.new)) (told (O.held out.old) (O.held out.new) (O.faults out.old) (O.faults out.new)) (told (G.held log.old) (G.held log.new) (G.faults log.old) (G.faults log.new))) result }
     ensures later { IsLater (around (S.file shelf.old) (S.read_faults shelf.old) (S.read_faults shelf.new) (told (I.left input.old) (I.left input.new) (I.faults input.old) (I.faults input.new)) (told (O.held out.old) (O.held out.new) (O.faults out.old) (O.faults out.new)) (told (G.held log.old) (G.held log.new) (G.faults log.old) (G.faults log.new))) }
     ensures files { (other : List ℕ) → S.file shelf.new other ≡ S.file shelf.old other }
+    ensures writes { S.write_faults shelf.new ≡ S.write_faults shelf.old }
 {
     run(alloc, command, FILE_LIMIT, shelf, input, out, log).status()
 }
@@ -192,6 +195,7 @@ pub fn cxxsim<R: AllocGlobal, S: Shelf, I: Source, O: Sink, G: Sink>(
     ensures answered { IsAnswered file_limit (command_of (map string_bytes words.now)) (around (S.file shelf.old) (S.read_faults shelf.old) (S.read_faults shelf.new) (told (I.left input.old) (I.left input.new) (I.faults input.old) (I.faults input.new)) (told (O.held out.old) (O.held out.new) (O.faults out.old) (O.faults out.new)) (told (G.held log.old) (G.held log.new) (G.faults log.old) (G.faults log.new))) result }
     ensures later { IsLater (around (S.file shelf.old) (S.read_faults shelf.old) (S.read_faults shelf.new) (told (I.left input.old) (I.left input.new) (I.faults input.old) (I.faults input.new)) (told (O.held out.old) (O.held out.new) (O.faults out.old) (O.faults out.new)) (told (G.held log.old) (G.held log.new) (G.faults log.old) (G.faults log.new))) }
     ensures files { (other : List ℕ) → S.file shelf.new other ≡ S.file shelf.old other }
+    ensures writes { S.write_faults shelf.new ≡ S.write_faults shelf.old }
 {
     call(rt.alloc(), words, shelf, input, out, log).status()
 }

@@ -30,6 +30,7 @@ fn read_text<S: Shelf>(
     ensures read { IsErrOf result LoadFault.Read → Rose (S.read_faults shelf.old) (S.read_faults shelf.new) }
     ensures later { S.read_faults shelf.old ≤ S.read_faults shelf.new }
     ensures files { (other : List ℕ) → S.file shelf.new other ≡ S.file shelf.old other }
+    ensures writes { S.write_faults shelf.new ≡ S.write_faults shelf.old }
 {
     match shelf.read(alloc, name, limit) {
         Ok(bytes) => Ok(bytes),
@@ -73,6 +74,7 @@ fn read_design<S: Shelf>(
     ensures read { IsErrOf result LoadFault.Read → Rose (S.read_faults shelf.old) (S.read_faults shelf.new) }
     ensures later { S.read_faults shelf.old ≤ S.read_faults shelf.new }
     ensures files { (other : List ℕ) → S.file shelf.new other ≡ S.file shelf.old other }
+    ensures writes { S.write_faults shelf.new ≡ S.write_faults shelf.old }
 {
     let text = read_text(alloc, shelf, name, limit, Refusal::DesignTooLong)?;
     match circuit_of_text(alloc, &text) {
@@ -96,6 +98,7 @@ fn read_samples<S: Shelf>(
     ensures read { IsErrOf result LoadFault.Read → Rose (S.read_faults shelf.old) (S.read_faults shelf.new) }
     ensures later { S.read_faults shelf.old ≤ S.read_faults shelf.new }
     ensures files { (other : List ℕ) → S.file shelf.new other ≡ S.file shelf.old other }
+    ensures writes { S.write_faults shelf.new ≡ S.write_faults shelf.old }
 {
     let text = read_text(alloc, shelf, name, limit, Refusal::StimulusTooLong)?;
     match read_stimulus(alloc, &text, circuit) {
@@ -127,6 +130,7 @@ pub fn load<S: Shelf>(
     ensures read { IsErrOf result LoadFault.Read → Rose (S.read_faults shelf.old) (S.read_faults shelf.new) }
     ensures later { S.read_faults shelf.old ≤ S.read_faults shelf.new }
     ensures files { (other : List ℕ) → S.file shelf.new other ≡ S.file shelf.old other }
+    ensures writes { S.write_faults shelf.new ≡ S.write_faults shelf.old }
 {
     let circuit = read_design(alloc, shelf, design, limit)?;
     let stimulus = read_samples(alloc, shelf, stimulus, limit, &circuit)?;

@@ -278,11 +278,8 @@ wire $b
 }
 
 #[test]
-fn registers_move_together_in_each_round(rt: HostRuntime) -> Result<(), Fail> {
-    let alloc = rt.alloc();
-    let chain = chain(alloc)?;
-    let rounds = rounds(alloc)?;
-    let ring = ring(alloc)?;
+fn registers_move_together_at_an_edge(rt: HostRuntime) -> Result<(), Fail> {
+    let chain = chain(rt.alloc())?;
     let edges = "stimulus 0
 inputs clk d
 block 2 0.00000001
@@ -290,14 +287,7 @@ block 2 0.00000001
 0.000000005 1 1
 end
 ";
-    check_rows(
-        &rt,
-        &[
-            Row {
-                design: &chain,
-                stimulus: edges,
-                status: 0,
-                out: "items 4
+    let traced = "items 4
 1 clk
 1 d
 1 q1
@@ -307,14 +297,24 @@ end
 0.000000010000000 0 1 1 0
 0.000000015000000 1 1 1 1
 end 4
-",
-                log: "",
-            },
-            Row {
-                design: &rounds,
-                stimulus: "stimulus 0\ninputs clk d\nblock 1 1.0\n0.0 0 1\n0.5 1 1\nend\n",
-                status: 0,
-                out: "items 5
+";
+    check_rows(
+        &rt,
+        &[Row {
+            design: &chain,
+            stimulus: edges,
+            status: 0,
+            out: traced,
+            log: "",
+        }],
+    )
+}
+
+#[test]
+fn rounds_follow_until_one_changes_nothing(rt: HostRuntime) -> Result<(), Fail> {
+    let rounds = rounds(rt.alloc())?;
+    let ring = ring(rt.alloc())?;
+    let traced = "items 5
 1 clk
 1 d
 1 g
@@ -323,7 +323,15 @@ end 4
 0.000000000000000 0 1 0 0 0
 0.500000000000000 1 1 1 1 1
 end 2
-",
+";
+    check_rows(
+        &rt,
+        &[
+            Row {
+                design: &rounds,
+                stimulus: "stimulus 0\ninputs clk d\nblock 1 1.0\n0.0 0 1\n0.5 1 1\nend\n",
+                status: 0,
+                out: traced,
                 log: "",
             },
             Row {
@@ -344,7 +352,7 @@ fn what_is_not_of_the_form_is_refused(rt: HostRuntime) -> Result<(), Fail> {
     let counter_by_sub = counter(alloc, "$sub")?;
     let refused_design = "refused 60 NotBuilt design\n";
     let refused_stimulus = "refused 60 NotBuilt stimulus\n";
-    let two_blanks = "stimulus 0\ninputs clk\nblock  3 0.00000001\n0.0 0\nend\n";
+    let two_blanks = "stimulus 0\ninputs clk\nblock  3 0.00000001\n0.0 0\n0.000000005 1\nend\n";
     let rows = [
         (counter_by_sub.as_str(), COUNTS, refused_design),
         ("", COUNTS, refused_design),

@@ -14,7 +14,7 @@ ghost use Rattle.cxxsim.specs.TraceText.{header, run_text, sample_line, sample_l
 
 use crate::print::{push_header, push_last_line, push_sample};
 use circuit::{Circuit, length_of_run};
-use flat_rounds::Rounds;
+use flat_rounds::{Rounds, zeros};
 use flat_stimulus::FlatStimulus;
 use outside::{Sink, put_all};
 use sim_base::NoMemory;
@@ -97,14 +97,6 @@ fn flush_long<O: Sink>(text: &mut Vec<u8>, out: &mut O) -> Result<(), TraceFault
         return Ok(());
     }
     flush(text, out)
-}
-
-/// So many words that are 0.
-fn zeros(alloc: Global, count: usize) -> Result<Vec<u64>, NoMemory>
-    ensures { IfOk result (λ words. length words.items ≡ count) }
-{
-    let words = vec![in alloc; 0u64; count]?;
-    Ok(words)
 }
 
 /// Puts the lines of the samples behind the header, up to the first that does not settle, and hands on
