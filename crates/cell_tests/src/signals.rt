@@ -9,7 +9,7 @@ use sim_base::{Bits, NoMemory};
 use std::alloc::Global;
 use std::test::Fail;
 
-/// A value of this width whose lowest 16 bits, at most, are those of a number.
+/// A value of this width whose lowest 64 bits, at most, are those of a number.
 fn value(alloc: Global, width: u32, number: u64) -> Result<Bits, NoMemory>
     requires { width ≤ 65536 }
     ensures { IfOk result (λ value. value.width ≡ width) }

@@ -1,12 +1,11 @@
-ghost use Rattle.std.specs.Prelude.{◌≡◌, ◌≤◌, ◌<◌, ◌*◌, ◌^◌, true, IfOk, IsTrue, [], ◌∷◌};
+ghost use Rattle.std.specs.Prelude.{◌≡◌, ◌≤◌, ◌<◌, ◌*◌, ◌^◌, true, IsTrue};
 ghost use Rattle.circuit.specs.Valid.{widths_fit};
-ghost use Rattle.circuit.specs.declared.netlist.Piece.TheVariants as piece;
 ghost use Rattle.cell_wide.specs.Kinds.{is_wide};
 
+use crate::forms::{FORMS, Form, cell_and_store};
 use cell_wide::eval_wide;
-use circuit::{Cell, Op, Piece, Sig, Store, Values};
+use circuit::{Op, Store};
 use sim_base::{Bits, NoMemory, Steps};
-use sqlite_items::Items;
 use std::alloc::Global;
 use std::marker::Brand;
 use std::sync::ledger::{Blank, Ledger};
@@ -25,12 +24,6 @@ fn value(alloc: Global, width: u32, digits: &str) -> Result<Bits, NoMemory> {
     let mut value = Bits::zero(alloc, width)?;
     let _held = value.put_hexadecimal(digits.as_bytes());
     Ok(value)
-}
-
-fn constant(alloc: Global, value: Bits) -> Result<Sig, NoMemory>
-    ensures { IfOk result (λ sig. sig ≡ piece.Const value ∷ []) }
-{
-    Ok(Items::from_vec(vec![in alloc; Piece::Const(value)]?))
 }
 
 /// Whether a width is that of 2 to the s parts.
@@ -87,38 +80,23 @@ fn fits(op: Op, width: u32, offset: u32, a: u32, b: u32, s: u32) -> bool
     }
 }
 
-/// The store after a cell with these constants at its ports was evaluated, and whether its output changed.
+/// The store after a cell with these values at its ports was evaluated, and whether its output changed.
 fn evaluated<L: Ledger>(
     alloc: Global,
+    form: Form,
     op: Op,
     signed: (bool, bool),
-    offset: u32,
     ports: (Bits, Bits, Bits),
     old: Bits,
     steps: &mut Steps<L>,
 ) -> Result<Option<(Store, bool)>, NoMemory> {
-    let (a, b, s) = ports;
-    let width = old.width();
-    if !fits(op, width, offset, a.width(), b.width(), s.width()) {
+    let offset = 3;
+    let (a, b, s) = (ports.0.width(), ports.1.width(), ports.2.width());
+    if !fits(op, old.width(), offset, a, b, s) {
         return Ok(None);
     }
-    let cell = Cell {
-        op,
-        a: constant(alloc, a)?,
-        b: constant(alloc, b)?,
-        s: constant(alloc, s)?,
-        a_signed: signed.0,
-        b_signed: signed.1,
-        width,
-        offset,
-    };
-    let mut store = Store {
-        nets: Values::new(alloc),
-        cells: Values::new(alloc),
-        regs: Values::new(alloc),
-        reads: Values::new(alloc),
-    };
-    store.cells.push(old)?;
+    let (cell, made) = cell_and_store(alloc, form, op, signed, offset, ports, old)?;
+    let mut store = made;
     let changed = eval_wide(&cell, &mut store, 0, steps);
     Ok(Some((store, changed)))
 }
@@ -127,6 +105,7 @@ fn evaluated<L: Ledger>(
 fn writes<L: Ledger>(
     alloc: Global,
     row: &Row,
+    form: Form,
     old: &str,
     steps: &mut Steps<L>,
 ) -> Result<bool, NoMemory> {
@@ -139,13 +118,27 @@ fn writes<L: Ledger>(
     let old_value = value(alloc, width, old)?;
     let wanted = value(alloc, width, y)?;
     let change = !old_value.same(&wanted);
-    let Some((store, changed)) = evaluated(alloc, op, signed, 3, ports, old_value, steps)? else {
+    let Some((store, changed)) = evaluated(alloc, form, op, signed, ports, old_value, steps)? else {
         return Ok(false);
     };
     let Some(output) = store.cells.as_slice().first() else {
         return Ok(false);
     };
     Ok(output.same(&wanted) && changed == change)
+}
+
+/// Whether it does so however its ports are written, over 0 and over an output that is right already.
+fn writes_in_each_form<L: Ledger>(
+    alloc: Global,
+    row: &Row,
+    steps: &mut Steps<L>,
+) -> Result<bool, NoMemory> {
+    for form in FORMS {
+        if !writes(alloc, row, form, "0", steps)? || !writes(alloc, row, form, row.3.3, steps)? {
+            return Ok(false);
+        }
+    }
+    Ok(true)
 }
 
 fn hold<L: Ledger>(alloc: Global, rows: &[Row], blank: Blank) -> Result<bool, NoMemory>
@@ -155,7 +148,7 @@ fn hold<L: Ledger>(alloc: Global, rows: &[Row], blank: Blank) -> Result<bool, No
 {
     let mut steps = Steps::<L>::new(blank);
     for row in rows {
-        if !writes(alloc, row, "0", &mut steps)? || !writes(alloc, row, row.3.3, &mut steps)? {
+        if !writes_in_each_form(alloc, row, &mut steps)? {
             return Ok(false);
         }
     }
@@ -401,7 +394,7 @@ fn truths_and_operations_on_each_bit(rt: HostRuntime) -> Result<(), Fail> {
 }
 
 #[test]
-fn selections(rt: HostRuntime) -> Result<(), Fail> {
+fn a_part_is_taken_where_it_is_selected(rt: HostRuntime) -> Result<(), Fail> {
     let rows: [Row; 12] = [
         (
             Op::Mux,

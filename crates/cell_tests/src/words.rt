@@ -1,10 +1,10 @@
 ghost use Rattle.std.specs.Prelude.{◌≡◌, ◌≤◌, ◌<◌, ◌+◌, [], ◌∷◌, true, IfOk, IsTrue};
 ghost use Rattle.circuit.specs.Valid.{widths_fit};
-ghost use Rattle.circuit.specs.declared.netlist.Piece.TheVariants as piece;
 ghost use Rattle.cell_words.specs.Kinds.{is_arithmetic_or_shift};
 
+use crate::forms::{FORMS, Form, cell_and_store, part};
 use cell_words::{Store, eval};
-use circuit::{Cell, Op, Piece, Sig, Values};
+use circuit::{Cell, Op, Values};
 use sim_base::{Bits, NoMemory, Steps};
 use sqlite_items::Items;
 use std::alloc::Global;
@@ -24,12 +24,6 @@ fn value(alloc: Global, width: u32, number: u128) -> Result<Bits, NoMemory>
     value.put_field(0, low, (number & u128::from(u64::MAX)) as u64);
     value.put_field(low, (width - low).min(64), (number >> 64) as u64);
     Ok(value)
-}
-
-fn constant(alloc: Global, value: Bits) -> Result<Sig, NoMemory>
-    ensures { IfOk result (λ sig. sig ≡ piece.Const value ∷ []) }
-{
-    Ok(Items::from_vec(vec![in alloc; Piece::Const(value)]?))
 }
 
 /// The lowest 128 digits.
@@ -60,9 +54,10 @@ fn fits(op: Op, width: u32, a: u32, b: u32) -> bool
     }
 }
 
-/// The store after a cell with these constants at its ports was evaluated, and whether its output changed.
+/// The store after a cell with these values at its ports was evaluated, and whether its output changed.
 fn evaluated<L: Ledger>(
     alloc: Global,
+    form: Form,
     op: Op,
     signed: (bool, bool),
     a: Bits,
@@ -70,27 +65,12 @@ fn evaluated<L: Ledger>(
     old: Bits,
     steps: &mut Steps<L>,
 ) -> Result<Option<(Store, bool)>, NoMemory> {
-    let width = old.width();
-    if !fits(op, width, a.width(), b.width()) {
+    if !fits(op, old.width(), a.width(), b.width()) {
         return Ok(None);
     }
-    let cell = Cell {
-        op,
-        a: constant(alloc, a)?,
-        b: constant(alloc, b)?,
-        s: Items::new(alloc),
-        a_signed: signed.0,
-        b_signed: signed.1,
-        width,
-        offset: 0,
-    };
-    let mut store = Store {
-        nets: Values::new(alloc),
-        cells: Values::new(alloc),
-        regs: Values::new(alloc),
-        reads: Values::new(alloc),
-    };
-    store.cells.push(old)?;
+    let ports = (a, b, Bits::zero(alloc, 0)?);
+    let (cell, made) = cell_and_store(alloc, form, op, signed, 0, ports, old)?;
+    let mut store = made;
     let changed = eval(&cell, &mut store, 0, steps);
     Ok(Some((store, changed)))
 }
@@ -99,6 +79,7 @@ fn evaluated<L: Ledger>(
 fn writes<L: Ledger>(
     alloc: Global,
     row: &Row,
+    form: Form,
     old: u128,
     steps: &mut Steps<L>,
 ) -> Result<bool, NoMemory> {
@@ -106,13 +87,27 @@ fn writes<L: Ledger>(
     let a = value(alloc, a_width, a)?;
     let b = value(alloc, b_width, b)?;
     let old_value = value(alloc, width, old)?;
-    let Some((store, changed)) = evaluated(alloc, op, signed, a, b, old_value, steps)? else {
+    let Some((store, changed)) = evaluated(alloc, form, op, signed, a, b, old_value, steps)? else {
         return Ok(false);
     };
     let Some(output) = store.cells.as_slice().first() else {
         return Ok(false);
     };
     Ok(number_of(output) == y && changed == (old != y))
+}
+
+/// Whether it does so however its ports are written, over 0 and over an output that is right already.
+fn writes_in_each_form<L: Ledger>(
+    alloc: Global,
+    row: &Row,
+    steps: &mut Steps<L>,
+) -> Result<bool, NoMemory> {
+    for form in FORMS {
+        if !writes(alloc, row, form, 0, steps)? || !writes(alloc, row, form, row.3.2, steps)? {
+            return Ok(false);
+        }
+    }
+    Ok(true)
 }
 
 fn hold<L: Ledger>(alloc: Global, rows: &[Row], blank: Blank) -> Result<bool, NoMemory>
@@ -122,7 +117,7 @@ fn hold<L: Ledger>(alloc: Global, rows: &[Row], blank: Blank) -> Result<bool, No
 {
     let mut steps = Steps::<L>::new(blank);
     for row in rows {
-        if !writes(alloc, row, 0, &mut steps)? || !writes(alloc, row, row.3.2, &mut steps)? {
+        if !writes_in_each_form(alloc, row, &mut steps)? {
             return Ok(false);
         }
     }
@@ -446,6 +441,129 @@ fn shifts_of_up_to_128_bits(rt: HostRuntime) -> Result<(), Fail> {
     Ok(())
 }
 
+#[test]
+fn sums_and_comparisons_in_one_word(rt: HostRuntime) -> Result<(), Fail> {
+    let rows: [Row; 18] = [
+        (Op::Add, (false, false), (8, 8, 8), (0xF0, 0x25, 0x15)),
+        (
+            Op::Add,
+            (true, true),
+            (16, 16, 16),
+            (0x8001, 0xFFFF, 0x8000),
+        ),
+        (
+            Op::Add,
+            (false, false),
+            (64, 64, 64),
+            (0xFFFF_FFFF_FFFF_FFFF, 2, 1),
+        ),
+        (Op::Sub, (false, false), (8, 8, 8), (0x12, 0x34, 0xDE)),
+        (
+            Op::Sub,
+            (true, true),
+            (33, 33, 33),
+            (0x1_0000_0000, 1, 0xFFFF_FFFF),
+        ),
+        (
+            Op::Sub,
+            (false, false),
+            (64, 64, 64),
+            (0, 1, 0xFFFF_FFFF_FFFF_FFFF),
+        ),
+        (Op::Mul, (false, false), (8, 8, 8), (0x1D, 0x3B, 0xAF)),
+        (Op::Mul, (true, true), (5, 5, 5), (0x1F, 0x1F, 1)),
+        (
+            Op::Mul,
+            (false, false),
+            (64, 64, 64),
+            (0xFFFF_FFFF, 0xFFFF_FFFF, 0xFFFF_FFFE_0000_0001),
+        ),
+        (
+            Op::Mul,
+            (true, true),
+            (64, 64, 64),
+            (0x1_0000_0000, 0x1_0000_0003, 0x3_0000_0000),
+        ),
+        (Op::Lt, (true, true), (8, 8, 1), (0x80, 0x7F, 1)),
+        (Op::Lt, (true, false), (8, 8, 4), (0x80, 0x7F, 0)),
+        (
+            Op::Le,
+            (true, true),
+            (63, 63, 1),
+            (0x4000_0000_0000_0000, 0x3CD7_0D82_3090_D070, 1),
+        ),
+        (Op::Le, (false, false), (16, 16, 1), (7, 7, 1)),
+        (
+            Op::Ge,
+            (false, true),
+            (63, 63, 64),
+            (8, 0x172D_5CA4_1595_D431, 0),
+        ),
+        (Op::Ge, (true, true), (1, 1, 1), (1, 0, 0)),
+        (
+            Op::Gt,
+            (true, true),
+            (64, 64, 1),
+            (0x8000_0000_0000_0000, 0, 0),
+        ),
+        (
+            Op::Gt,
+            (false, false),
+            (64, 64, 1),
+            (0x8000_0000_0000_0000, 0, 1),
+        ),
+    ];
+    assert!(rt; hold::<Brand>(rt.alloc(), &rows, Blank::new(1))?);
+    Ok(())
+}
+
+#[test]
+fn shifts_in_one_word(rt: HostRuntime) -> Result<(), Fail> {
+    let rows: [Row; 9] = [
+        (Op::Shl, (false, false), (7, 3, 31), (0x7F, 5, 0xFE0)),
+        (
+            Op::Shl,
+            (false, true),
+            (64, 1, 8),
+            (0x409F_BB66_4005_0760, 1, 0xC0),
+        ),
+        (
+            Op::Shl,
+            (false, false),
+            (64, 8, 64),
+            (1, 0x3F, 0x8000_0000_0000_0000),
+        ),
+        (Op::Shl, (false, false), (8, 8, 64), (1, 0x40, 0)),
+        (
+            Op::Sshl,
+            (false, false),
+            (33, 1, 31),
+            (0x1_261D_C86A, 0, 0x261D_C86A),
+        ),
+        (
+            Op::Sshl,
+            (false, true),
+            (33, 8, 64),
+            (0x1_70E7_FB42, 4, 0x17_0E7F_B420),
+        ),
+        (
+            Op::Shr,
+            (false, false),
+            (63, 1, 31),
+            (0x7322_D0A0_D986_E222, 1, 0x6CC3_7111),
+        ),
+        (
+            Op::Sshr,
+            (false, false),
+            (64, 3, 3),
+            (0x6679_5C87_4A34_307C, 1, 6),
+        ),
+        (Op::Sshr, (true, false), (32, 1, 1), (0xD, 0, 1)),
+    ];
+    assert!(rt; hold::<Brand>(rt.alloc(), &rows, Blank::new(1))?);
+    Ok(())
+}
+
 /// A type, the width of A and its only bit that is 1, by how many places it is moved, the width of Y, and 64
 /// bits of Y from a place on.
 type WideRow = (Op, (u32, u32), u128, u32, (u32, u64));
@@ -463,13 +581,14 @@ fn one_bit(alloc: Global, width: u32, bit: u32) -> Result<Bits, NoMemory>
 fn writes_wide<L: Ledger>(
     alloc: Global,
     row: &WideRow,
+    form: Form,
     steps: &mut Steps<L>,
 ) -> Result<bool, NoMemory> {
     let (op, (a_width, bit), by, width, (at, want)) = *row;
     let a = one_bit(alloc, a_width, bit)?;
     let b = value(alloc, 128, by)?;
     let old = Bits::zero(alloc, width)?;
-    let Some((store, changed)) = evaluated(alloc, op, (true, false), a, b, old, steps)? else {
+    let Some((store, changed)) = evaluated(alloc, form, op, (true, false), a, b, old, steps)? else {
         return Ok(false);
     };
     let Some(output) = store.cells.as_slice().first() else {
@@ -488,8 +607,10 @@ fn hold_wide<L: Ledger>(alloc: Global, rows: &[WideRow], blank: Blank) -> Result
 {
     let mut steps = Steps::<L>::new(blank);
     for row in rows {
-        if !writes_wide(alloc, row, &mut steps)? {
-            return Ok(false);
+        for form in FORMS {
+            if !writes_wide(alloc, row, form, &mut steps)? {
+                return Ok(false);
+            }
         }
     }
     Ok(true)
@@ -512,12 +633,6 @@ fn shifts_of_many_words(rt: HostRuntime) -> Result<(), Fail> {
     ];
     assert!(rt; hold_wide::<Brand>(rt.alloc(), &rows, Blank::new(1))?);
     Ok(())
-}
-
-fn part(net: u32, at: u32, width: u32) -> Piece
-    ensures { result ≡ piece.Part net at width }
-{
-    Piece::Part { net, at, width }
 }
 
 /// The outputs of a store of two cells, after the second, a `$sub` of parts of two nets, was evaluated.
