@@ -7,7 +7,7 @@ use Rattle.circuit.specs.Output.{modulo, ones, operand}
 use Rattle.circuit.specs.Signal.{Digits, sig_number, sig_value, sig_width}
 use Rattle.circuit.specs.declared.netlist.Piece.{Piece}
 use Rattle.signal_words.specs.Values.{digits_in, IsWordOf}
-use Rattle.cell_wide.specs.Words.{IsWritten}
+use Rattle.signal_words.specs.Written.{IsWritten}
 use Rattle.cell_wide.proofs.Narrow.{cut_operand}
 use Rattle.cell_wide.proofs.Truths.{ones_count}
 

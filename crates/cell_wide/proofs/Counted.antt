@@ -4,11 +4,11 @@ use Rattle.std.specs.Prelude.{◌==◌}
 use Rattle.std.specs.Int.{bit_at, trailing_zeros}
 use Rattle.std.proofs.lemmas.Bool.{cases_lt, cond-true, cond-false}
 use Rattle.std.proofs.lemmas.Bool.Decides.{nat_tests}
-use Rattle.std.proofs.lemmas.Nat.{pow_pos, ones_cat, and_mask, ones_le_self}
+use Rattle.std.proofs.lemmas.Nat.{pow_pos, ones_cat, and_mask}
 use Rattle.std.proofs.lemmas.Nat.Bits.{bit_at-zero, bit_at_above, bit_at_cat_low, bit_at_cat_high, bit_at-trailing_zeros}
 use Rattle.circuit.specs.Output.{lowest_from}
 use Rattle.cell_wide.specs.Words.{Passes}
-use Rattle.cell_wide.proofs.Written.{none_passed, low_more, more_passed}
+use Rattle.cell_wide.proofs.Written.{low_more, more_passed}
 
 -- ---- how many
 
@@ -36,15 +36,6 @@ counted low next behind width at odd n word i q e le lt =
       passed = more_passed low next behind at n word i.passed q e;
       parity = ap (bit_xor odd) one ∙ xor_digit odd (count_ones word % 2) (omega (arith, i.parity)) (omega arith) ∙ omega (arith, i.parity, all);
     }
-
-pub counted_none : (low : ℕ → ℕ) (width : ℕ) → low 0 < 2 ^ 0 → IsCounting low low width 0 0
-counted_none low width b = let z : low 0 ≡ 0 = omega (arith, b) in record { most = omega arith; passed = none_passed low b; parity = none (count_ones (low 0)) (ap count_ones z) }
-  where
-    none : (c : ℕ) → c ≡ count_ones 0 → 0 ≡ c % 2
-    none c e = omega (arith, e, ones_le_self 0)
-
-pub counted_all : (low next : ℕ → ℕ) (width at odd : ℕ) → IsCounting low next width at odd → width ≤ at → (odd == 1) ≡ (count_ones (low width) % 2 == 1)
-counted_all low next width at odd i le = let k : at ≡ width = omega (arith, i.most) in ap (λ x. x == 1) (i.parity ∙ ap (λ x. count_ones (low x) % 2) k)
 
 -- ---- the lowest one
 

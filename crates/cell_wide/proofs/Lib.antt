@@ -2,7 +2,6 @@ pub mod Digits
 pub mod Written
 pub mod Copied
 pub mod Counted
-pub mod Modulo
 pub mod Operands
 pub mod Outputs
 pub mod Truths

@@ -9,7 +9,7 @@ use Rattle.sim_base.specs.BitValue.{digit_of}
 use Rattle.std.specs.Prelude.{◌==◌, pos, ◌-ℤ◌}
 use Rattle.circuit.specs.Output.{modulo, operand}
 use Rattle.cell_wide.specs.Words.{low_of_number, low_of_fill, low_of_chain}
-use Rattle.cell_wide.proofs.Modulo.{modulo_difference}
+use Rattle.signal_words.proofs.Modulo.{modulo_difference}
 
 power_split : (w width : ℕ) → w ≤ width → 2 ^ width ≡ 2 ^ (width - w) * 2 ^ w
 power_split w width le = let e : width ≡ width - w + w = omega arith in ap (λ k. 2 ^ k) e ∙ pow-add 2 (width - w) w

@@ -5,18 +5,19 @@ use Rattle.std.specs.Prelude.{ℤ, pos, ◌-ℤ◌, ◌==◌}
 use Rattle.std.proofs.lemmas.Bool.{cond-true, cond-false}
 use Rattle.std.proofs.lemmas.Nat.{pow_pos}
 use Rattle.sim_base.specs.BitValue.{BitValue, bit_value}
-use Rattle.circuit.specs.Signal.{Digits, sig_number, sig_width}
+use Rattle.circuit.specs.Signal.{Digits, sig_number}
 use Rattle.circuit.specs.declared.netlist.Piece.{Piece}
 use Rattle.circuit.specs.Output.{modulo, formula, inputs_of, output, operand, left, right, first}
 use Rattle.circuit.specs.declared.cell.Cell.{Cell}
 use Rattle.circuit.specs.declared.cell.Op.{Op}
 use Rattle.circuit.specs.declared.cell.Op.TheVariants as op
-use Rattle.cell_wide.specs.Words.{IsWritten, combined}
+use Rattle.signal_words.specs.Written.{IsWritten}
+use Rattle.cell_wide.specs.Words.{combined}
 use Rattle.cell_wide.specs.Kinds.{is_bitwise}
 use Rattle.cell_wide.specs.Below.{combined_below}
 use Rattle.cell_wide.specs.declared.words.Bitwise.{Bitwise}
 use Rattle.cell_wide.specs.declared.words.Bitwise.TheVariants as by
-use Rattle.cell_wide.proofs.Modulo.{modulo_below, modulo_difference}
+use Rattle.signal_words.proofs.Modulo.{modulo_below, modulo_difference}
 
 pub output_of : (digits : Digits) (c : Cell) (o : Op) → c.op ≡ o → modulo c.width (formula o (inputs_of digits c)) ≡ output digits c
 output_of digits c o is = ap (λ x. modulo c.width (formula x (inputs_of digits c))) (sym is)
@@ -65,11 +66,6 @@ xnor_output digits c other w x y is same width a b =
 pub not_output : (digits : Digits) (c : Cell) (w x : ℕ) → c.op ≡ op.Not → w ≡ c.width → x ≡ modulo w (first (inputs_of digits c)) → (2 ^ w - 1) - x ≡ output digits c
 not_output digits c w x is width a =
     ap (λ z. (2 ^ w - 1) - z) a ∙ ap (λ k. (2 ^ k - 1) - modulo k (first (inputs_of digits c))) width ∙ inverse_modulo c.width (first (inputs_of digits c)) ∙ output_of digits c op.Not is
-
--- an operand that was read from a signal
-pub operand_read : (digits : Digits) (w x : ℕ) (signed flag : Bool) (sig port : List Piece) → x ≡ modulo w (operand signed (sig_width sig) (sig_number digits sig)) → signed ≡ flag → sig ≡ port → x ≡ modulo w (operand flag (sig_width port) (sig_number digits port))
-operand_read digits w x signed flag sig port e s p =
-    e ∙ ap (λ t. modulo w (operand t (sig_width sig) (sig_number digits sig))) s ∙ ap (λ y. modulo w (operand flag (sig_width y) (sig_number digits y))) p
 
 -- a combination of two operands is below
 pub combined_word : (op : Bitwise) (w x y : ℕ) (a b : ℤ) → x ≡ modulo w a → y ≡ modulo w b → combined op x y < 2 ^ w

@@ -2,7 +2,6 @@
 use Rattle.std.proofs.Common.{◌≡◌, ℕ, zero, suc, ◌+◌, ◌-◌, ◌*◌, ◌/◌, ◌%◌, ◌^◌, ◌<◌, ◌≤◌, min, refl, sym, ◌∙◌, ap, subst, arith, inl, inr, Bool, true, false, cond, bit_and, bit_xor, lit<}
 use Rattle.std.proofs.Math.Nat.{mod-eq_of_lt, pow-le-pow_right, add-mul-mod_self_right, zero-mod}
 use Rattle.std.proofs.lemmas.Bool.{cases_lt, and_parts, cond-false}
-use Rattle.std.proofs.lemmas.Bool.Decides.{nat_tests}
 use Rattle.std.proofs.lemmas.Nat.{mod-pow-add, mod_below, mod_low, shr_high, pow_pos, pow-add, xor_mod, and_mod}
 use Rattle.std.proofs.lemmas.Nat.Bits.{bit_at-lt, bit_at_and, bit_at_xor}
 use Rattle.std.specs.Int.{bit_at}
@@ -15,11 +14,9 @@ use Rattle.circuit.specs.declared.cell.Op.TheVariants as op
 use Rattle.circuit.proofs.Same.{gathered_same}
 use Rattle.sim_base.proofs.Field.{bit_at_mod}
 use Rattle.signal_words.proofs.Numbers.{field_gathered, whole_field}
+use Rattle.signal_words.proofs.Told.{eq_from}
 use Rattle.cell_wide.specs.Words.{low_of_number, low_of_fill, low_of_chain}
 use Rattle.cell_wide.proofs.Outputs.{output_of}
-
-eq_from : (m n : ℕ) → (m == n) ≡ true → m ≡ n
-eq_from m n e = grind (arith, nat_tests)
 
 -- ---- places
 
@@ -175,14 +172,6 @@ bweqx_output digits c w a b is width ea eb =
     ap (λ y. (2 ^ w - 1) - y) whole ∙ e ∙ sym (mod-eq_of_lt below) ∙ ap (λ k. gathered (equal_bit i) k % 2 ^ k) width ∙ output_of digits c op.Bweqx is
 
 -- ---- widths
-
-pub pmux_width : (c : Cell) → c.op ≡ op.Pmux → widths_fit c.op (widths_of c) ≡ true → sig_width c.b ≡ c.width * sig_width c.s
-pmux_width c is f =
-    let t = and_parts (sig_width c.a == c.width) (sig_width c.b == c.width * sig_width c.s) (subst (λ o. widths_fit o (widths_of c) ≡ true) is f) in eq_from (sig_width c.b) (c.width * sig_width c.s) t.1
-
-pub bmux_width : (c : Cell) → c.op ≡ op.Bmux → widths_fit c.op (widths_of c) ≡ true → sig_width c.a ≡ c.width * 2 ^ sig_width c.s
-bmux_width c is f =
-    let t = and_parts (sig_width c.a == c.width * 2 ^ sig_width c.s) (sig_width c.b == 0) (subst (λ o. widths_fit o (widths_of c) ≡ true) is f) in eq_from (sig_width c.a) (c.width * 2 ^ sig_width c.s) t.0
 
 pub demux_width : (c : Cell) → c.op ≡ op.Demux → widths_fit c.op (widths_of c) ≡ true → c.width ≡ sig_width c.a * 2 ^ sig_width c.s
 demux_width c is f =

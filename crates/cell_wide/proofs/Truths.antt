@@ -8,9 +8,7 @@ use Rattle.std.proofs.lemmas.Nat.{mod-pow-add, mod_below, pow_pos, pow-add, ones
 use Rattle.std.proofs.lemmas.Nat.Bits.{bit_at_above, bit_at_cat_high, bit_at_ones, bit_at-lt}
 use Rattle.std.specs.Int.{bit_at}
 use Rattle.std.specs.Prelude.{◌==◌, ℤ, pos, ◌-ℤ◌, int_le}
-use Rattle.circuit.specs.Signal.{Digits}
-use Rattle.circuit.specs.Output.{modulo, operand, ones, truth, formula, inputs_of, output}
-use Rattle.circuit.specs.declared.cell.Cell.{Cell}
+use Rattle.circuit.specs.Output.{modulo, operand, ones, truth}
 use Rattle.cell_wide.specs.Words.{low_of_fill, low_of_chain}
 use Rattle.cell_wide.proofs.Operands.{ones_low}
 
@@ -129,7 +127,3 @@ truth_number true (suc w) =
     let p : 2 ^ 1 ≤ 2 ^ suc w = pow-le-pow_right {n = 2} (lit< tt) {i = 1} {j = suc w} (omega arith) in
     let z : 0 * 2 ^ 1 + (2 ^ 1 - 1) ≡ 1 = omega arith in
     ap (λ k. 0 * 2 ^ k + (2 ^ k - 1)) m ∙ z ∙ sym (mod-eq_of_lt (omega (arith, p)))
-
--- the output of a cell that gives a truth value
-pub truth_output : (digits : Digits) (c : Cell) (t : Bool) (w : ℕ) → formula c.op (inputs_of digits c) ≡ truth t → w ≡ c.width → low_of_chain (low_of_fill t) 1 (low_of_fill false) w ≡ output digits c
-truth_output digits c t w f width = truth_number t w ∙ ap (λ k. modulo k (truth t)) width ∙ ap (modulo c.width) (sym f)

@@ -31,13 +31,6 @@ word_at_place ws number place fit is =
     sym (bit_at_mod (number / 2 ^ (64 * place)) 64 j low ∙ bit_at_shr number (64 * place) j ∙ ap (λ n. bit_at n (64 * place + j)) (sym is) ∙ bit_words ws (64 * place + j) fit
     ∙ ap (λ k. bit_at (get_or ws k 0) ((64 * place + j) % 64)) q ∙ ap (bit_at (get_or ws place 0)) r))
 
--- the only one
-pub only_word_is : (ws : List ℕ) (number width : ℕ) → AreWords ws → number_of_words ws ≡ number → number < 2 ^ width → width ≤ 64 → slice_index_or ws 0 0 ≡ number
-only_word_is ws number width fit is lt le =
-    let p : 2 ^ width ≤ 2 ^ 64 = pow-le-pow_right {n = 2} (lit< tt) {i = width} {j = 64} le in
-    let none : number / 2 ^ (64 * 0) ≡ number = omega arith in
-    word_at_place ws number 0 fit is ∙ ap (λ x. x % 2 ^ 64) none ∙ mod-eq_of_lt (omega (arith, lt, p))
-
 -- ---- digits that differ
 
 pub no_difference : (a b : ℕ) → bit_xor a b ≡ 0 → a ≡ b
@@ -57,9 +50,6 @@ difference_none a b e = same_from_bits (bit_xor a b) 0 (λ j.
 pub record IsDiffering (number old place changed : ℕ) : Type 0 where
   pub unchanged : changed ≡ 0 → old % 2 ^ (64 * place) ≡ number % 2 ^ (64 * place)
   pub same : old % 2 ^ (64 * place) ≡ number % 2 ^ (64 * place) → changed ≡ 0
-
-pub none_differs : (number old : ℕ) → IsDiffering number old 0 0
-none_differs number old = record { unchanged = λ e. omega arith; same = λ e. refl }
 
 -- the digits below the next place
 split : (x place : ℕ) → x % 2 ^ (64 * (place + 1)) ≡ x / 2 ^ (64 * place) % 2 ^ 64 * 2 ^ (64 * place) + x % 2 ^ (64 * place)
@@ -99,9 +89,6 @@ all_compared number old w place changed i below fits le =
 pub record IsReplacing (number : ℕ) (old new : BitValue) (place : ℕ) : Type 0 where
   pub same_width : new.width ≡ old.width
   pub below : new.number ≡ old.number / 2 ^ (64 * place) * 2 ^ (64 * place) + number % 2 ^ (64 * place)
-
-pub none_replaced : (number : ℕ) (old : BitValue) → IsReplacing number old old 0
-none_replaced number old = record { same_width = refl; below = omega arith }
 
 pub one_replaced : (number : ℕ) (old new put : BitValue) (place word : ℕ) → IsReplacing number old new place → word ≡ number / 2 ^ (64 * place) % 2 ^ 64 → put.width ≡ new.width
     → ((j : ℕ) → bit_at put.number j ≡ digit_after_copy (64 * place) word 0 64 new.number j) → IsReplacing number old put (place + 1)
@@ -209,12 +196,3 @@ last_word o w at n a b x y is small la lb e f =
   where
     under : (x m n : ℕ) → x < m → m ≤ n → x < n
     under x m n lt le = omega (arith, lt, le)
-
--- a type of cell that keeps the first operand does so as `$pos`
-pub first_kept : (o : Op) (w a b : ℕ) → (o ≡ op.And → ⊥) → (o ≡ op.Or → ⊥) → (o ≡ op.Xor → ⊥) → (o ≡ op.Xnor → ⊥) → (o ≡ op.Not → ⊥) → digitwise op.Pos w a b ≡ digitwise o w a b
-first_kept op.And w a b p q r s t = absurd (p refl)
-first_kept op.Or w a b p q r s t = absurd (q refl)
-first_kept op.Xor w a b p q r s t = absurd (r refl)
-first_kept op.Xnor w a b p q r s t = absurd (s refl)
-first_kept op.Not w a b p q r s t = absurd (t refl)
-first_kept _ w a b p q r s t = refl

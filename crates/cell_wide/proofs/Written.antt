@@ -11,7 +11,8 @@ use Rattle.sim_base.specs.BitValue.{BitValue, bit_value, digit_after_copy}
 use Rattle.sim_base.proofs.Words.{copied_in, copied_below, copied_above}
 use Rattle.sim_base.proofs.Field.{bit_at_mod, bit_at_shr}
 use Rattle.signal_words.proofs.Numbers.{shifted_below}
-use Rattle.cell_wide.specs.Words.{Passes, IsWritten}
+use Rattle.signal_words.specs.Written.{IsWritten}
+use Rattle.cell_wide.specs.Words.{Passes}
 
 -- ---- reading on
 
@@ -174,7 +175,3 @@ all_compared low next high behind width at i le =
   where
     together : (c d : ℕ) → c ≡ d → true ≡ (c == d)
     together c d h = grind (arith, nat_tests)
-
-pub none_compared : (low high : ℕ → ℕ) (width : ℕ) → low 0 < 2 ^ 0 → high 0 < 2 ^ 0 → IsComparing low low high high width 0
-none_compared low high width a b =
-    record { most = omega arith; passed = none_passed low a; other = none_passed high b; equal = omega (arith, a, b) }

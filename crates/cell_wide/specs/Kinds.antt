@@ -59,6 +59,11 @@ is_selection op.Slice = true
 is_selection op.Concat = true
 is_selection _ = false
 
+-- those that select, apart from `$mux`
+abbrev pub is_selection_but_mux : Op → Bool
+is_selection_but_mux op.Mux = false
+is_selection_but_mux o = is_selection o
+
 -- those that do not select
 abbrev pub is_computed : Op → Bool
 is_computed o = is_unary o || (is_bitwise o || is_truth o)

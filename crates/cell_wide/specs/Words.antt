@@ -1,7 +1,7 @@
 -- Numbers that are given by their digits, the least first, without an end: for each number of digits the number that so
 -- many of the lowest make.
-use Rattle.std.specs.Prelude.{◌≡◌, ℕ, ◌+◌, ◌-◌, ◌*◌, ◌%◌, ◌^◌, min, bit_and, bit_or, bit_xor, ◌==◌, Bool, not, if◌then◌else◌}
-use Rattle.sim_base.specs.BitValue.{BitValue, bit_value}
+use Rattle.std.specs.Prelude.{◌≡◌, ℕ, ◌+◌, ◌-◌, ◌*◌, ◌%◌, ◌^◌, min, bit_and, bit_or, bit_xor, Bool, if◌then◌else◌}
+use Rattle.sim_base.specs.BitValue.{BitValue}
 use Rattle.circuit.specs.declared.cell.Op.{Op}
 use Rattle.circuit.specs.declared.cell.Op.TheVariants as op
 use Rattle.cell_wide.specs.declared.words.Bitwise.{Bitwise}
@@ -32,11 +32,6 @@ abbrev pub combined : Bitwise → ℕ → ℕ → ℕ
 combined by.And a b = bit_and a b
 combined by.Or a b = bit_or a b
 combined by.Xor a b = bit_xor a b
-
--- a value after a number was written into it, and whether that changed it
-pub record IsWritten (number : ℕ) (old new : BitValue) (changed : Bool) : Type 0 where
-  pub value : new ≡ bit_value old.width number
-  pub told : changed ≡ not (old.number == number)
 
 -- the digits of an operand: those of a signal, and behind its last one ones or zeros
 abbrev pub low_of_operand : BitValue → ℕ → Bool → ℕ → ℕ

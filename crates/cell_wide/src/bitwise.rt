@@ -5,14 +5,15 @@ ghost use Rattle.circuit.specs.Output.{first, inputs_of, left, modulo, output, r
 ghost use Rattle.circuit.specs.Signal.{Digits, sig_value};
 ghost use Rattle.signal_words.specs.Values.{digits_in, IsSignalOf, IsWordOf};
 ghost use Rattle.cell_wide.specs.Kinds.{IsReady, is_bitwise, is_unary};
-ghost use Rattle.cell_wide.specs.Words.{IsWritten, low_of_operand};
+ghost use Rattle.signal_words.specs.Written.{IsWritten};
+ghost use Rattle.cell_wide.specs.Words.{low_of_operand};
 
 use crate::operand::{Operand, operand};
-use crate::word::{is_signed, operand_word};
-use crate::words::{Bitwise, Inverse, Pair, Words, ones};
-use crate::write::{put_word, write};
+use crate::word::operand_word;
+use crate::words::{Bitwise, Inverse, Pair, Words};
+use crate::write::write;
 use circuit::{Cell, Op};
-use signal_words::{SigWord, one_piece};
+use signal_words::{SigWord, are_signed, one_piece, ones_word, put_word};
 use sim_base::Bits;
 
 /// The output of a unary cell whose port and output have at most 64 bits.
@@ -27,7 +28,7 @@ fn unary_word(cell: &Cell, a: SigWord) -> u64
 {
     let a = operand_word(a, cell.a_signed, cell.width);
     match cell.op {
-        Op::Not => ones(cell.width) - a,
+        Op::Not => ones_word(cell.width) - a,
         _ => a,
     }
 }
@@ -46,7 +47,7 @@ pub fn unary(cell: &Cell, nets: &[Bits], a: Option<SigWord>, into: &mut Bits) ->
     }
 }
 
-/// The same for a cell of any width.
+/// `$not` and `$pos` of any width.
 #[inline(never)]
 fn unary_wide<'a>(cell: &'a Cell, nets: &'a [Bits], into: &mut Bits) -> bool
     requires kind { is_unary cell.now.op ≡ true }
@@ -60,7 +61,7 @@ fn unary_wide<'a>(cell: &'a Cell, nets: &'a [Bits], into: &mut Bits) -> bool
     }
 }
 
-/// The same for the digits of the operand.
+/// `$not` and `$pos` of these digits of the operand.
 fn unary_by<A: Words>(cell: &Cell, nets: &[Bits], digits: A, into: &mut Bits) -> bool
     requires kind { is_unary cell.now.op ≡ true }
     requires into { into.old.width ≡ cell.now.width }
@@ -76,19 +77,17 @@ fn unary_by<A: Words>(cell: &Cell, nets: &[Bits], digits: A, into: &mut Bits) ->
 }
 
 /// The two operands of a cell, which are signed where both flags are set.
-pub fn operands<'a>(cell: &'a Cell, nets: &'a [Bits], by: Bitwise) -> Pair<Operand<'a>, Operand<'a>>
+pub fn operands<'a>(cell: &'a Cell, nets: &'a [Bits]) -> (Operand<'a>, Operand<'a>)
     requires a { IsSignalOf nets.now cell.now.a }
     requires b { IsSignalOf nets.now cell.now.b }
-    ensures one { (w : ℕ) → low_of_operand result.one.low result.one.left result.one.high.ones w ≡ modulo w (left (inputs_of (digits_in nets.now) cell.now)) }
-    ensures other { (w : ℕ) → low_of_operand result.other.low result.other.left result.other.high.ones w ≡ modulo w (right (inputs_of (digits_in nets.now) cell.now)) }
-    ensures by { result.by ≡ by }
+    ensures one { (w : ℕ) → low_of_operand result.0.low result.0.left result.0.high.ones w ≡ modulo w (left (inputs_of (digits_in nets.now) cell.now)) }
+    ensures other { (w : ℕ) → low_of_operand result.1.low result.1.left result.1.high.ones w ≡ modulo w (right (inputs_of (digits_in nets.now) cell.now)) }
 {
-    let signed = is_signed(cell);
-    Pair {
-        one: operand(cell.a.as_slice(), nets, signed),
-        other: operand(cell.b.as_slice(), nets, signed),
-        by,
-    }
+    let signed = are_signed(cell);
+    (
+        operand(cell.a.as_slice(), nets, signed),
+        operand(cell.b.as_slice(), nets, signed),
+    )
 }
 
 /// The output of a binary cell whose ports and output have at most 64 bits.
@@ -104,14 +103,14 @@ fn bitwise_word(cell: &Cell, a: SigWord, b: SigWord) -> u64
         → result ≡ output digits cell.now }
     ensures below { result < 2 ^ cell.now.width }
 {
-    let signed = is_signed(cell);
+    let signed = are_signed(cell);
     let a = operand_word(a, signed, cell.width);
     let b = operand_word(b, signed, cell.width);
     match cell.op {
         Op::And => a & b,
         Op::Or => a | b,
         Op::Xor => a ^ b,
-        _ => ones(cell.width) - (a ^ b),
+        _ => ones_word(cell.width) - (a ^ b),
     }
 }
 
@@ -136,7 +135,7 @@ pub fn bitwise(
     }
 }
 
-/// The same for a cell of any width.
+/// `$and`, `$or`, `$xor` and `$xnor` of any width.
 #[inline(never)]
 fn bitwise_wide<'a>(cell: &'a Cell, nets: &'a [Bits], into: &mut Bits) -> bool
     requires kind { is_bitwise cell.now.op ≡ true }
@@ -153,18 +152,18 @@ fn bitwise_wide<'a>(cell: &'a Cell, nets: &'a [Bits], into: &mut Bits) -> bool
     bitwise_of_pieces(cell, nets, into)
 }
 
-/// The same for operands of any pieces.
+/// `$and`, `$or`, `$xor` and `$xnor` of operands of any pieces.
 #[inline(never)]
 fn bitwise_of_pieces<'a>(cell: &'a Cell, nets: &'a [Bits], into: &mut Bits) -> bool
     requires kind { is_bitwise cell.now.op ≡ true }
     requires ready { IsReady nets.now cell.now into.old }
     ensures { IsWritten (output (digits_in nets.now) cell.now) into.old into.new result }
 {
-    let Pair { one, other, .. } = operands(cell, nets, Bitwise::Xor);
+    let (one, other) = operands(cell, nets);
     bitwise_by(cell, nets, one, other, into)
 }
 
-/// The same for the digits of the operands.
+/// `$and`, `$or`, `$xor` and `$xnor` of these digits of the operands.
 fn bitwise_by<A: Words, B: Words>(
     cell: &Cell,
     nets: &[Bits],

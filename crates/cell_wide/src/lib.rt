@@ -3,6 +3,7 @@
 
 mod bitwise;
 mod cell;
+mod computed;
 mod count;
 mod operand;
 mod select;

@@ -4,16 +4,18 @@ ghost use Rattle.circuit.specs.Output.{lowest_from, output};
 ghost use Rattle.circuit.specs.Signal.{sig_number, sig_width};
 ghost use Rattle.circuit.specs.declared.cell.Op.TheVariants as op;
 ghost use Rattle.signal_words.specs.Values.{digits_in, AreInside, IsSignalOf};
-ghost use Rattle.cell_wide.specs.Kinds.{IsReady, is_selection};
-ghost use Rattle.cell_wide.specs.Words.{IsWritten};
+ghost use Rattle.cell_wide.specs.Kinds.{IsReady, is_selection_but_mux};
+ghost use Rattle.signal_words.specs.Written.{IsWritten};
 
 use crate::count::lowest;
 use crate::operand::is_zero;
-use crate::values::{only_word, write_digitwise};
+use crate::values::write_digitwise;
 use crate::words::{Bitwise, Chain, Fill, Inverse, Pair};
-use crate::write::{put_word, write};
+use crate::write::write;
 use circuit::{Cell, Op, Piece};
-use signal_words::{SigReader, one_piece, sig_field, sig_width, sig_word, whole_value, word_of};
+use signal_words::{
+    SigReader, one_piece, only_word, put_word, sig_field, sig_width, sig_word, whole_value, word_of,
+};
 use sim_base::Bits;
 
 /// Writes the bits of a signal from its bit `at` on.
@@ -46,7 +48,7 @@ fn copy_whole(sig: &[Piece], nets: &[Bits], into: &mut Bits) -> bool
     }
 }
 
-/// The same for a signal of any pieces.
+/// Writes a signal of any pieces that has the width of the value.
 #[inline(never)]
 fn copy_pieces(sig: &[Piece], nets: &[Bits], into: &mut Bits) -> bool
     requires signal { IsSignalOf nets.now sig.now }
@@ -59,7 +61,7 @@ fn copy_pieces(sig: &[Piece], nets: &[Bits], into: &mut Bits) -> bool
     }
 }
 
-/// The same, word by word.
+/// Writes as many of the lowest bits of a signal as the value has, word by word.
 fn copy_words<'a>(sig: &'a [Piece], nets: &'a [Bits], into: &mut Bits) -> bool
     requires { IsSignalOf nets.now sig.now }
     ensures { IsWritten (sig_number (digits_in nets.now) sig.now % 2 ^ into.old.width) into.old into.new result }
@@ -86,7 +88,7 @@ fn is_one(sig: &[Piece], nets: &[Bits]) -> bool
     }
 }
 
-/// The same for a signal of any pieces.
+/// Whether the number of a signal of one bit and any pieces is 1.
 #[inline(never)]
 fn is_one_of_pieces(sig: &[Piece], nets: &[Bits]) -> bool
     requires inside { AreInside nets.now sig.now }
@@ -109,6 +111,7 @@ fn selected(width: u32, s: &[Piece], nets: &[Bits]) -> u32
     width * sig_word(s, nets) as u32
 }
 
+/// `$mux`.
 #[inline(always)]
 pub fn mux(cell: &Cell, nets: &[Bits], into: &mut Bits) -> bool
     requires kind { cell.now.op ≡ op.Mux }
@@ -221,15 +224,14 @@ fn concat(cell: &Cell, nets: &[Bits], into: &mut Bits) -> bool
     write(&mut digits, into)
 }
 
-/// `$mux`, `$pmux`, `$bmux`, `$demux`, `$bwmux`, `$bweqx`, `$slice` and `$concat`.
+/// `$pmux`, `$bmux`, `$demux`, `$bwmux`, `$bweqx`, `$slice` and `$concat`.
 #[inline(never)]
 pub fn selection(cell: &Cell, nets: &[Bits], into: &mut Bits) -> bool
-    requires kind { is_selection cell.now.op ≡ true }
+    requires kind { is_selection_but_mux cell.now.op ≡ true }
     requires ready { IsReady nets.now cell.now into.old }
     ensures { IsWritten (output (digits_in nets.now) cell.now) into.old into.new result }
 {
     match cell.op {
-        Op::Mux => mux(cell, nets, into),
         Op::Pmux => pmux(cell, nets, into),
         Op::Bmux => bmux(cell, nets, into),
         Op::Demux => demux(cell, nets, into),

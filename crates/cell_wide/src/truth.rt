@@ -4,17 +4,16 @@ ghost use Rattle.circuit.specs.Output.{Inputs, formula, inputs_of, is_equal, mod
 ghost use Rattle.circuit.specs.Signal.{sig_number, sig_value, sig_width};
 ghost use Rattle.signal_words.specs.Values.{digits_in, IsSignalOf, IsWordOf};
 ghost use Rattle.cell_wide.specs.Kinds.{IsReady, is_equality, is_logic, is_reduction, is_truth};
-ghost use Rattle.cell_wide.specs.Words.{IsWritten};
+ghost use Rattle.signal_words.specs.Written.{IsWritten};
 
 use crate::bitwise::operands;
 use crate::count::is_odd;
 use crate::operand::is_zero;
-use crate::values::put_only_word;
-use crate::word::{is_signed, operand_word};
-use crate::words::{Bitwise, Chain, Fill, Pair, ones as all_ones};
+use crate::word::operand_word;
+use crate::words::{Chain, Fill};
 use crate::write::{same, write};
 use circuit::{Cell, Op, Piece};
-use signal_words::{SigReader, SigWord, sig_width};
+use signal_words::{SigReader, SigWord, are_signed, ones_word, put_only_word, sig_width};
 use sim_base::Bits;
 
 /// Whether all bits of a signal are 1.
@@ -25,12 +24,12 @@ fn are_ones(sig: &[Piece], nets: &[Bits], word: Option<SigWord>) -> bool
     ensures { result ≡ (sig_number (digits_in nets.now) sig.now == 2 ^ sig_width sig.now - 1) }
 {
     match word {
-        Some(word) => word.number == all_ones(word.width),
+        Some(word) => word.number == ones_word(word.width),
         None => are_ones_wide(sig, nets),
     }
 }
 
-/// The same for a signal of any width.
+/// Whether all bits of a signal of any width are 1.
 #[inline(never)]
 fn are_ones_wide(sig: &[Piece], nets: &[Bits]) -> bool
     requires { IsSignalOf nets.now sig.now }
@@ -67,7 +66,7 @@ fn has_odd_ones(sig: &[Piece], nets: &[Bits], word: Option<SigWord>) -> bool
     }
 }
 
-/// The same for a signal of any width.
+/// Whether the number of bits of a signal of any width that are 1 is odd.
 #[inline(never)]
 fn has_odd_ones_wide(sig: &[Piece], nets: &[Bits]) -> bool
     requires { IsSignalOf nets.now sig.now }
@@ -133,12 +132,12 @@ fn are_equal(cell: &Cell, nets: &[Bits], a: Option<SigWord>, b: Option<SigWord>)
     ensures { result ≡ is_equal (inputs_of (digits_in nets.now) cell.now) }
 {
     match (a, b) {
-        (Some(a), Some(b)) => are_equal_words(a, b, is_signed(cell)),
+        (Some(a), Some(b)) => are_equal_words(a, b, are_signed(cell)),
         _ => are_equal_wide(cell, nets),
     }
 }
 
-/// The same for operands of any width.
+/// Whether the two operands of a cell, of any width, are the same whole number.
 #[inline(never)]
 fn are_equal_wide(cell: &Cell, nets: &[Bits]) -> bool
     requires a { IsSignalOf nets.now cell.now.a }
@@ -148,11 +147,7 @@ fn are_equal_wide(cell: &Cell, nets: &[Bits]) -> bool
     let a = cell.a.as_slice();
     let b = cell.b.as_slice();
     let width = sig_width(a).max(sig_width(b));
-    let Pair {
-        mut one,
-        mut other,
-        ..
-    } = operands(cell, nets, Bitwise::Xor);
+    let (mut one, mut other) = operands(cell, nets);
     same(&mut one, &mut other, width)
 }
 
@@ -218,7 +213,7 @@ pub fn put_truth(into: &mut Bits, ones: bool) -> bool
     put_truth_wide(into, ones)
 }
 
-/// The same for a value of any width.
+/// Makes the number of a value of any width 1 or 0, and tells whether that changed it.
 #[inline(never)]
 fn put_truth_wide(into: &mut Bits, ones: bool) -> bool
     ensures { IsWritten (modulo into.old.width (truth ones)) into.old into.new result }

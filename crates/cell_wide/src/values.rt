@@ -1,10 +1,11 @@
 //! Values of one width, digit by digit.
 ghost use Rattle.std.specs.Prelude.{◌≡◌, ◌==◌, ◌<◌, ◌≤◌, ◌^◌};
 ghost use Rattle.sim_base.specs.BitValue.{bit_value};
-ghost use Rattle.cell_wide.specs.Words.{IsWritten, digitwise};
+ghost use Rattle.signal_words.specs.Written.{IsWritten};
+ghost use Rattle.cell_wide.specs.Words.{digitwise};
 
-use crate::words::ones;
 use circuit::Op;
+use signal_words::{ones_word, only_word, put_only_word};
 use sim_base::Bits;
 
 /// What a type of cell makes of `n` digits of its two operands. A type that is none of these keeps the first.
@@ -20,8 +21,8 @@ fn digitwise(op: Op, n: u32, one: u64, other: u64) -> u64
         Op::And => one & other,
         Op::Or => one | other,
         Op::Xor => one ^ other,
-        Op::Xnor => ones(n) - (one ^ other),
-        Op::Not => ones(n) - one,
+        Op::Xnor => ones_word(n) - (one ^ other),
+        Op::Not => ones_word(n) - one,
         _ => one,
     }
 }
@@ -89,7 +90,7 @@ fn write_words(op: Op, one: &Bits, other: &Bits, into: &mut Bits) -> bool
     true
 }
 
-/// The same for values of many words, with a loop of its own for each type of cell.
+/// Writes what a type of cell makes of two values of many words, with a loop of its own for each type.
 #[inline(never)]
 fn write_many(op: Op, one: &Bits, other: &Bits, into: &mut Bits) -> bool
     requires one { one.now.width ≡ into.old.width }
@@ -104,33 +105,6 @@ fn write_many(op: Op, one: &Bits, other: &Bits, into: &mut Bits) -> bool
         Op::Not => write_words(Op::Not, one, other, into),
         _ => write_words(Op::Pos, one, other, into),
     }
-}
-
-/// The number of a value of 1 to 64 bits. It has one word, which is read without a test.
-#[inline(always)]
-pub fn only_word(value: &Bits) -> u64
-    requires some { 0 < value.now.width }
-    requires small { value.now.width ≤ 64 }
-    ensures value { result ≡ value.now.number }
-    ensures below { result < 2 ^ value.now.width }
-{
-    let _ = value.width();
-    value.words()[0]
-}
-
-/// Makes a word the number of a value of 1 to 64 bits, and tells whether that changed it.
-#[inline(always)]
-pub fn put_only_word(into: &mut Bits, word: u64) -> bool
-    requires some { 0 < into.old.width }
-    requires small { into.old.width ≤ 64 }
-    requires below { word < 2 ^ into.old.width }
-    ensures { IsWritten word into.old into.new result }
-{
-    let changed = only_word(into) != word;
-    if changed {
-        into.put(word);
-    }
-    changed
 }
 
 /// Writes what a type of cell makes of two values of the output's width, and tells whether that changed it.

@@ -3,9 +3,9 @@ ghost use Rattle.std.specs.Prelude.{◌≡◌, true};
 ghost use Rattle.circuit.specs.Output.{Inputs, formula, is_equal, output, truth};
 ghost use Rattle.signal_words.specs.Values.{digits_in};
 ghost use Rattle.cell_wide.specs.Kinds.{IsReady, is_bitwise, is_equality, is_unary};
-ghost use Rattle.cell_wide.specs.Words.{IsWritten};
+ghost use Rattle.signal_words.specs.Written.{IsWritten};
 
-use crate::cell::computed_of_parts;
+use crate::computed::computed_of_parts;
 use crate::truth::put_truth;
 use crate::values::{are_same, write_digitwise};
 use circuit::{Cell, Op};

@@ -1,27 +1,8 @@
 //! Operands of at most 64 bits.
-ghost use Rattle.std.specs.Prelude.{◌≡◌, ◌&&◌, ◌==◌, ◌-◌, ◌<◌, ◌≤◌, ◌^◌};
-ghost use Rattle.std.specs.Int.{bit_at};
+ghost use Rattle.std.specs.Prelude.{◌≡◌, ◌<◌, ◌≤◌, ◌^◌};
 ghost use Rattle.circuit.specs.Output.{modulo, operand};
 
-use crate::words::ones;
-use circuit::Cell;
-use signal_words::SigWord;
-
-/// Whether both operands of a cell are signed.
-pub fn is_signed(cell: &Cell) -> bool
-    ensures { result ≡ (cell.now.a_signed && cell.now.b_signed) }
-{
-    cell.a_signed && cell.b_signed
-}
-
-/// Whether the highest bit of a number of this width is 1.
-fn is_negative(number: u64, width: u32) -> bool
-    requires small { width ≤ 64 }
-    requires below { number < 2 ^ width }
-    ensures { result ≡ (bit_at number (width - 1) == 1) }
-{
-    width > 0 && (number >> (width - 1)) & 1 == 1
-}
+use signal_words::{SigWord, is_negative, ones_word};
 
 /// An operand, extended to `to` bits.
 #[inline]
@@ -32,7 +13,7 @@ fn longer(number: u64, width: u32, signed: bool, to: u32) -> u64
     ensures { result ≡ modulo to (operand signed width number) }
 {
     if signed && is_negative(number, width) {
-        number + (ones(to) - ones(width))
+        number + (ones_word(to) - ones_word(width))
     } else {
         number
     }
@@ -49,7 +30,7 @@ fn extended(number: u64, width: u32, signed: bool, to: u32) -> u64
     if width == to {
         number
     } else if width > to {
-        number & ones(to)
+        number & ones_word(to)
     } else {
         longer(number, width, signed, to)
     }

@@ -2,7 +2,7 @@
 ghost use Rattle.std.specs.Prelude.{◌≡◌, ℕ, ◌-◌, ◌<◌, ◌≤◌, ◌^◌};
 ghost use Rattle.cell_wide.specs.Words.{Passes};
 
-use signal_words::{PieceReader, SigReader};
+use signal_words::{PieceReader, SigReader, ones_word};
 
 /// A number that is read from its least digit on. It has no end: a signal goes on with zeros.
 pub trait Words: Drop {
@@ -60,7 +60,7 @@ impl Words for Fill {
     ghost below = { λ s w. fill_below s.ones w };
 
     fn next(&mut self, n: u32) -> u64 {
-        if self.ones { ones(n) } else { 0 }
+        if self.ones { ones_word(n) } else { 0 }
     }
 }
 
@@ -110,7 +110,7 @@ impl<A: Words> Words for Inverse<A> {
 
     #[inline(always)]
     fn next(&mut self, n: u32) -> u64 {
-        ones(n) - self.of.next(n)
+        ones_word(n) - self.of.next(n)
     }
 }
 
@@ -148,12 +148,4 @@ impl<A: Words, B: Words> Words for Pair<A, B> {
             Bitwise::Xor => one ^ other,
         }
     }
-}
-
-/// The number of `n` ones, at most 64.
-pub fn ones(n: u32) -> u64
-    requires { n ≤ 64 }
-    ensures { result ≡ 2 ^ n - 1 }
-{
-    if n == 64 { u64::MAX } else { (1 << n) - 1 }
 }

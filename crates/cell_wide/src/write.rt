@@ -1,23 +1,11 @@
 //! What is done with the digits of a number.
 ghost use Rattle.std.specs.Prelude.{◌≡◌, ◌==◌, ◌+◌, ◌/◌, ◌%◌, ◌<◌, ◌≤◌, ◌^◌};
-ghost use Rattle.cell_wide.specs.Words.{IsWritten, Passes};
+ghost use Rattle.signal_words.specs.Written.{IsWritten};
+ghost use Rattle.cell_wide.specs.Words.{Passes};
 
 use crate::words::Words;
+use signal_words::put_word;
 use sim_base::Bits;
-
-/// Makes a word the number of a value of at most 64 bits, and tells whether that changed it.
-#[inline(always)]
-pub fn put_word(into: &mut Bits, word: u64) -> bool
-    requires small { into.old.width ≤ 64 }
-    requires below { word < 2 ^ into.old.width }
-    ensures { IsWritten word into.old into.new result }
-{
-    let changed = into.word() != word;
-    if changed {
-        into.put(word);
-    }
-    changed
-}
 
 /// Reads the next `n` digits. Most are whole words, which are told apart so that they are read without a mask.
 #[inline(always)]
@@ -33,7 +21,7 @@ fn next_word<W: Words>(words: &mut W, n: u32) -> u64
     }
 }
 
-/// The same of the digits of a value from `at` on.
+/// Reads `n` digits of a value from `at` on, whole words again without a mask.
 #[inline(always)]
 fn word_at(value: &Bits, at: u32, n: u32) -> u64
     requires small { n ≤ 64 }

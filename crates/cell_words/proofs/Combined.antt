@@ -10,7 +10,7 @@ use Rattle.circuit.specs.declared.cell.Op.{Op}
 use Rattle.circuit.specs.declared.cell.Op.TheVariants as op
 use Rattle.cell_words.specs.Kinds.{is_modular}
 use Rattle.cell_words.specs.Shifts.{is_below_zero}
-use Rattle.cell_words.proofs.Modulo.{Is, modulo_is, modulo_of, modulo_below, modulo_lower, modulo_product, is_only, is_sum, is_difference}
+use Rattle.signal_words.proofs.Modulo.{Is, modulo_is, modulo_of, modulo_below, modulo_lower, modulo_product, is_only, is_sum, is_difference}
 
 digits_of : (w : ℕ) (z : ℤ) (n : ℕ) → modulo w z ≡ n → Is (2 ^ w) z n
 digits_of w z n e = subst (Is (2 ^ w) z) e (modulo_is w z)

@@ -2,12 +2,12 @@
 use Rattle.std.proofs.Common.{◌≡◌, ℕ, ◌+◌, ◌-◌, ◌*◌, ◌/◌, ◌%◌, ◌^◌, ◌<◌, ◌≤◌, refl, sym, ◌∙◌, ap, arith, inl, inr, subst, min, Bool, true, false, cond, ◌&&◌, ◌⊎◌}
 use Rattle.std.proofs.lemmas.Bool.{cases_lt, eq-eqb, ne_eqb, cond-true}
 use Rattle.std.specs.Prelude.{◌==◌, ℤ, pos, negsuc, ◌-ℤ◌, int_lt}
-use Rattle.std.proofs.lemmas.Bool.Decides.{eqb_tells}
 use Rattle.std.proofs.lemmas.Nat.{mod_below, pow_pos, pow-add, div-add-mod', shr_below}
 use Rattle.std.proofs.lemmas.Int.{ints}
 use borrow.Author.Differences.{up, down}
 use Rattle.sim_base.specs.BitValue.{BitValue, bit_value}
 use Rattle.circuit.specs.Output.{operand}
+use Rattle.signal_words.proofs.Told.{eq_from}
 use Rattle.cell_words.specs.Wholes.{magnitude}
 use Rattle.cell_words.specs.Shifts.{farthest, all_ones, is_below_zero, IsAmount}
 use Rattle.cell_words.proofs.Filled.{same_places}
@@ -56,9 +56,6 @@ rest_fits n left R S le lt e =
     let s : left ≡ left - n + n = omega arith in
     subst (λ (x : ℕ). x < 2 ^ (left - n)) (sym e) (shr_below R (left - n) n (subst (λ (k : ℕ). R < 2 ^ k) s lt))
 
-same_out : (a b : ℕ) → (a == b) ≡ true → a ≡ b
-same_out a b h = elim (eqb_tells a b) [ inl t ↦ t.1 | inr f ↦ absurd (let z : true ≡ false = sym h ∙ f.0 in cc) ]
-
 differ_out : (a b : ℕ) → (a == b) ≡ false → (a ≡ b → ⊥)
 differ_out a b h e = let z : true ≡ false = sym (eq-eqb a b e) ∙ h in absurd (cc)
 
@@ -68,13 +65,13 @@ is_near true w v n rest word near lt le r e f same =
     let s : w - n + n ≡ w = omega arith in
     let p : 2 ^ w ≡ 2 ^ (w - n) * 2 ^ n = ap (λ k. 2 ^ k) (sym s) ∙ pow-add 2 (w - n) n in
     let a : 0 < 2 ^ (w - n) = pow_pos (w - n) in
-    let t : rest ≡ 2 ^ (w - n) - 1 = same_out rest (2 ^ (w - n) - 1) same in
+    let t : rest ≡ 2 ^ (w - n) - 1 = eq_from rest (2 ^ (w - n) - 1) same in
     let u : 2 ^ (w - n) ≡ v / 2 ^ n + 1 = omega arith in
     let d : 2 ^ (w - n) * 2 ^ n ≡ (v / 2 ^ n + 1) * 2 ^ n = ap (λ x. x * 2 ^ n) u in
     let split : v / 2 ^ n * 2 ^ n + v % 2 ^ n ≡ v = div-add-mod' v (2 ^ n) in
     omega arith
 is_near false w v n rest word near lt le r e f same =
-    let t : v / 2 ^ n ≡ 0 = sym r ∙ same_out rest 0 same in
+    let t : v / 2 ^ n ≡ 0 = sym r ∙ eq_from rest 0 same in
     let d : v / 2 ^ n * 2 ^ n ≡ 0 * 2 ^ n = ap (λ x. x * 2 ^ n) t in
     let split : v / 2 ^ n * 2 ^ n + v % 2 ^ n ≡ v = div-add-mod' v (2 ^ n) in
     omega arith

@@ -1,4 +1,3 @@
-pub mod Modulo
 mod Wholes
 mod Shifted
 mod Sources

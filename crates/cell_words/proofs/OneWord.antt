@@ -1,17 +1,6 @@
 -- Values of one word.
-use Rattle.std.proofs.Common.{◌≡◌, ℕ, zero, suc, ◌+◌, ◌-◌, ◌*◌, ◌/◌, ◌%◌, ◌^◌, ◌<◌, ◌≤◌, List, [], ◌∷◌, sym, ◌∙◌, ap, arith, lit<, bit_and}
-use Rattle.std.specs.Prelude.{slice_index_or}
-use Rattle.std.proofs.Math.Nat.{pow-le-pow_right}
+use Rattle.std.proofs.Common.{◌≡◌, ℕ, zero, suc, ◌+◌, ◌-◌, ◌*◌, ◌/◌, ◌%◌, ◌^◌, ◌<◌, ◌≤◌, sym, ◌∙◌, ap, arith, bit_and}
 use Rattle.std.proofs.lemmas.Nat.{and_mask, mod_below, pow_pos, pow-add, div-add-mod', same_from_place}
-use Rattle.sim_base.specs.BitValue.{number_of_words}
-
--- the only word
-pub only_word_is : (ws : List ℕ) (number width : ℕ) → number_of_words ws ≡ number → number < 2 ^ width → width ≤ 64 → slice_index_or ws 0 0 ≡ number
-unfolding number_of_words
-only_word_is [] number width is lt le = is
-only_word_is (w ∷ ws) number width is lt le =
-    let p : 2 ^ width ≤ 2 ^ 64 = pow-le-pow_right {n = 2} (lit< tt) {i = width} {j = 64} le in
-    omega (arith, is, lt, p)
 
 top_digits : (m k : ℕ) → 0 < m → 0 < k → m * k ≡ 2 ^ 64 → (2 ^ 64 - 1) / k ≡ m - 1
 top_digits zero k some below e = absurd (omega arith)

@@ -3,13 +3,13 @@ use Rattle.std.proofs.Common.{◌≡◌, ℕ, ◌+◌, ◌-◌, ◌*◌, ◌/◌
 use Rattle.std.proofs.lemmas.Bool.{cases_lt}
 use Rattle.std.proofs.lemmas.Nat.{mod_below, pow_pos, pow-add, shr_high, field_of, mod-pow-add}
 use Rattle.std.proofs.Math.Nat.{mod-eq_of_lt, mul-mod_left, div-eq_of_lt, pow-le-pow_right, div-one, mul-one, mul_assoc}
-use Rattle.std.specs.Prelude.{ℤ, pos, negsuc, ◌-ℤ◌, ◌*ℤ◌}
+use Rattle.std.specs.Prelude.{ℤ, pos, negsuc, ◌-ℤ◌}
 use Rattle.std.proofs.lemmas.Int.{ints}
 use Rattle.sim_base.specs.BitValue.{BitValue}
 use Rattle.circuit.specs.Output.{modulo, floor_by}
 use borrow.Author.Differences.{up, down}
 use Rattle.cell_words.specs.Shifts.{extended, farthest}
-use Rattle.cell_words.proofs.Modulo.{Is, is_only, is_product, modulo_of, modulo_lower}
+use Rattle.signal_words.proofs.Modulo.{Is, is_only, modulo_lower}
 
 pub is_itself : (m n : ℕ) → Is m (pos n) n
 is_itself m n = (0, 0, omega arith)
@@ -26,11 +26,6 @@ left_within w S n = elim (cases_lt n w) [
   | inl a ↦ (let e : min n w ≡ n = omega arith in ap (λ k. S * 2 ^ k % 2 ^ w) e)
   | inr b ↦ (let e : min n w ≡ w = omega arith in ap (λ k. S * 2 ^ k % 2 ^ w) e ∙ none_left w S w (omega arith) ∙ sym (none_left w S n b))
 ]
-
--- a move to the left is a product
-pub left_is_product : (w S n : ℕ) (z : ℤ) → Is (2 ^ w) z S → S * 2 ^ min n w % 2 ^ w ≡ modulo w (z *ℤ pos (2 ^ n))
-left_is_product w S n z is =
-    left_within w S n ∙ modulo_of w (z *ℤ pos (2 ^ n)) (S * 2 ^ n) (is_product (2 ^ w) z (pos (2 ^ n)) S (2 ^ n) is (is_itself (2 ^ w) (2 ^ n)))
 
 pow_grows : (k n : ℕ) → k ≤ n → 2 ^ k ≤ 2 ^ n
 pow_grows k n le = pow-le-pow_right {n = 2} (omega arith) le

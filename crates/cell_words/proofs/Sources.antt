@@ -14,7 +14,7 @@ use Rattle.circuit.specs.declared.cell.Op.TheVariants as op
 use Rattle.cell_words.specs.Wholes.{magnitude}
 use Rattle.cell_words.specs.Kinds.{is_one_sided, is_shift}
 use Rattle.cell_words.specs.Shifts.{extended, farthest, source, places, is_to_the_left, is_negative, is_below_zero, IsPlain}
-use Rattle.cell_words.proofs.Modulo.{modulo_is, is_product, is_lower, modulo_of}
+use Rattle.signal_words.proofs.Modulo.{modulo_is, is_product, is_lower, modulo_of}
 use Rattle.cell_words.proofs.Shifted.{none_left, none_right, is_itself, extended_is, extended_not, extended_below, moved_left, moved_right, moved_floor}
 
 first_unsigned : (i : Inputs) → is_negative i ≡ false → first i ≡ pos i.a.number

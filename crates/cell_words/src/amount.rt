@@ -5,10 +5,10 @@ ghost use Rattle.circuit.specs.Signal.{sig_number, sig_width};
 ghost use Rattle.signal_words.specs.Values.{digits_in, AreInside};
 ghost use Rattle.cell_words.specs.Shifts.{farthest, all_ones, is_below_zero, IsAmount};
 
+use crate::narrow::is_below_zero as is_word_below_zero;
 use crate::shift::Amount;
-use crate::source::ones_word;
 use circuit::Piece;
-use signal_words::{SigReader, one_word, sig_bit, sig_width, word_of};
+use signal_words::{SigReader, SigWord, one_word, ones_word, sig_bit, sig_width, word_of};
 use sim_base::Bits;
 
 /// No shift moves digits by more places: twice the largest width.
@@ -66,23 +66,23 @@ fn distance(sig: &[Piece], nets: &[Bits], ones: bool) -> u32
 }
 
 /// The number of places that an operand of at most 64 bits asks for.
-fn amount_of_word(width: u32, word: u64, signed: bool) -> Amount
-    requires narrow { width ≤ 64 }
-    requires below { word < 2 ^ width }
-    ensures { IsAmount result (operand signed width word) }
+fn amount_of_word(word: SigWord, signed: bool) -> Amount
+    requires narrow { word.width ≤ 64 }
+    requires below { word.number < 2 ^ word.width }
+    ensures { IsAmount result (operand signed word.width word.number) }
 {
-    if signed && width > 0 && (word >> (width - 1)) & 1 == 1 {
-        let below = (ones_word(width) - word).min(u64::from(FARTHEST)) as u32;
+    if is_word_below_zero(word, signed) {
+        let below = (ones_word(word.width) - word.number).min(u64::from(FARTHEST)) as u32;
         let by = (below + 1).min(FARTHEST);
         return Amount { negative: true, by };
     }
     Amount {
         negative: false,
-        by: word.min(u64::from(FARTHEST)) as u32,
+        by: word.number.min(u64::from(FARTHEST)) as u32,
     }
 }
 
-/// The same of an operand of any width.
+/// The number of places that an operand of any width asks for, which is read word by word.
 #[inline(never)]
 fn amount_of_words(sig: &[Piece], nets: &[Bits], signed: bool) -> Amount
     requires inside { AreInside nets.now sig.now }
@@ -100,7 +100,7 @@ fn amount_of_words(sig: &[Piece], nets: &[Bits], signed: bool) -> Amount
     }
 }
 
-/// The same of an operand of any pieces.
+/// The number of places that an operand of any pieces asks for.
 #[inline(never)]
 fn amount_of_pieces(sig: &[Piece], nets: &[Bits], signed: bool) -> Amount
     requires inside { AreInside nets.now sig.now }
@@ -108,7 +108,7 @@ fn amount_of_pieces(sig: &[Piece], nets: &[Bits], signed: bool) -> Amount
     ensures { IsAmount result (operand signed (sig_width sig.now) (sig_number (digits_in nets.now) sig.now)) }
 {
     match word_of(sig, nets) {
-        Some(word) => amount_of_word(word.width, word.number, signed),
+        Some(word) => amount_of_word(word, signed),
         None => amount_of_words(sig, nets, signed),
     }
 }
@@ -121,7 +121,7 @@ pub fn amount_of(sig: &[Piece], nets: &[Bits], signed: bool) -> Amount
     ensures { IsAmount result (operand signed (sig_width sig.now) (sig_number (digits_in nets.now) sig.now)) }
 {
     match one_word(sig, nets) {
-        Some(word) => amount_of_word(word.width, word.number, signed),
+        Some(word) => amount_of_word(word, signed),
         None => amount_of_pieces(sig, nets, signed),
     }
 }

@@ -75,7 +75,7 @@ fn low_of(cell: &Cell, a: Port, b: Port) -> u128
     of_two(cell.op, &left, &Whole::operand(signed, b.width, b.number))
 }
 
-/// The same apart from the way for words.
+/// What an arithmetic cell computes from words, modulo 2^128. It stands apart so that the way for words stays short.
 #[inline(never)]
 fn low_of_words(cell: &Cell, a: SigWord, b: SigWord) -> u128
     requires kind { is_arithmetic cell.now.op ≡ true }

@@ -3,8 +3,7 @@ ghost use Rattle.std.specs.Prelude.{◌≡◌, pos, ℤ, ◌+◌, ◌-◌, ◌<�
 ghost use Rattle.circuit.specs.Output.{modulo, operand};
 ghost use Rattle.cell_words.specs.Shifts.{is_below_zero};
 
-use crate::source::ones_word;
-use signal_words::SigWord;
+use signal_words::{SigWord, is_negative, ones_word};
 use std::marker::Model;
 
 /// A whole number above -2^64 and below 2^64, which is what a contract sees of it.
@@ -34,16 +33,15 @@ impl Narrow {
         requires below { word.number < 2 ^ word.width }
         ensures { result ≡ operand signed word.width word.number }
     {
-        let (width, number) = (word.width, word.number);
-        if signed && width > 0 && (number >> (width - 1)) & 1 == 1 {
+        if is_below_zero(word, signed) {
             Narrow {
                 negative: true,
-                low: number + (u64::MAX - ones_word(width)),
+                low: word.number + (u64::MAX - ones_word(word.width)),
             }
         } else {
             Narrow {
                 negative: false,
-                low: number,
+                low: word.number,
             }
         }
     }
@@ -108,5 +106,5 @@ pub fn is_below_zero(word: SigWord, signed: bool) -> bool
     requires below { word.number < 2 ^ word.width }
     ensures { result ≡ is_below_zero signed word.width word.number }
 {
-    signed && word.width > 0 && (word.number >> (word.width - 1)) & 1 == 1
+    signed && is_negative(word.number, word.width)
 }

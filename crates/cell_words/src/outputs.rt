@@ -16,12 +16,12 @@ use crate::narrow::is_below_zero as is_word_below_zero;
 use crate::port::{Port, port_of};
 use crate::shift::{moved_word, shift_of, shifted_plainly};
 use crate::source::{Source, fill};
-use crate::values::{
-    combined, compared, digit, is_negative, is_one_word, low_digits, only_word, put_only_word,
-};
+use crate::values::{combined, compared, digit, is_negative, is_one_word, low_digits};
 use crate::write::{put_low, put_low_word};
 use circuit::{Cell, Op, Store};
-use signal_words::{SigWord, one_word, sig_width, whole_value, word_of};
+use signal_words::{
+    SigWord, are_signed, one_word, only_word, put_only_word, sig_width, whole_value, word_of,
+};
 use sim_base::{Bits, Steps};
 use std::sync::ledger::Ledger;
 
@@ -45,7 +45,8 @@ fn computed(cell: &Cell, nets: &[Bits], a: Port, b: Port, into: &mut Bits) -> bo
     put_low(into, number)
 }
 
-/// The same of ports of any pieces. It stands apart so that the way for ports of one piece stays short.
+/// Arithmetic and comparisons of ports of any pieces. It stands apart so that the way for ports of one piece stays
+/// short.
 #[inline(never)]
 fn arithmetic_of_pieces(cell: &Cell, nets: &[Bits], into: &mut Bits) -> bool
     requires kind { is_arithmetic cell.now.op ≡ true }
@@ -79,7 +80,7 @@ fn computed_word(cell: &Cell, nets: &[Bits], a: SigWord, b: SigWord, into: &mut 
     put_low_word(into, number)
 }
 
-/// The same, and where each port is one piece of at most 64 bits without a loop.
+/// Arithmetic and comparisons, without a loop where each port is one piece of at most 64 bits.
 #[inline(always)]
 fn arithmetic(cell: &Cell, nets: &[Bits], into: &mut Bits) -> bool
     requires kind { is_arithmetic cell.now.op ≡ true }
@@ -102,7 +103,8 @@ fn arithmetic(cell: &Cell, nets: &[Bits], into: &mut Bits) -> bool
     arithmetic_of_pieces(cell, nets, into)
 }
 
-/// The same, apart from the ways for whole values.
+/// Arithmetic and comparisons of ports that are not whole values. It stands apart so that the ways for whole values
+/// stay short.
 #[inline(never)]
 fn arithmetic_of_parts(cell: &Cell, nets: &[Bits], into: &mut Bits) -> bool
     requires kind { is_arithmetic cell.now.op ≡ true }
@@ -163,14 +165,6 @@ fn combination(op: Op, cell: &Cell, nets: &[Bits], into: &mut Bits) -> bool
         }
     }
     arithmetic_of_parts(cell, nets, into)
-}
-
-/// Whether both operands have a sign.
-#[inline(always)]
-fn are_signed(cell: &Cell) -> bool
-    ensures { result ≡ cell.now.a_signed && cell.now.b_signed }
-{
-    cell.a_signed && cell.b_signed
 }
 
 /// `$lt`, `$le`, `$ge` and `$gt` of two values of one width.
@@ -318,6 +312,7 @@ fn shifted_plain(cell: &Cell, nets: &[Bits], a: SigWord, b: SigWord, into: &mut 
     put_low_word(into, number)
 }
 
+/// A shift, in words where each operand is one piece of at most 64 bits and neither is below 0.
 #[inline(always)]
 fn shifted(cell: &Cell, nets: &[Bits], into: &mut Bits) -> bool
     requires kind { is_shift cell.now.op ≡ true }
@@ -340,7 +335,7 @@ fn shifted(cell: &Cell, nets: &[Bits], into: &mut Bits) -> bool
     shifted_pieces(cell, nets, into)
 }
 
-/// The same, apart from the ways for whole values.
+/// A shift of operands that are not whole values. It stands apart so that the ways for whole values stay short.
 #[inline(never)]
 fn shifted_parts(cell: &Cell, nets: &[Bits], into: &mut Bits) -> bool
     requires kind { is_shift cell.now.op ≡ true }
@@ -401,15 +396,19 @@ fn shift(op: Op, cell: &Cell, nets: &[Bits], into: &mut Bits) -> bool
     ensures value { into.new ≡ bit_value cell.now.width (output (digits_in nets.now) cell.now) }
     ensures changed { result ≡ not (into.old.number == output (digits_in nets.now) cell.now) }
 {
-    if let Some(a) = whole_value(cell.a.as_slice(), nets) {
-        if let Some(b) = whole_value(cell.b.as_slice(), nets) {
-            if is_one_word(into.width()) && is_one_word(a.width()) && is_one_word(b.width()) {
-                let (a, b) = (word_of_value(a), word_of_value(b));
-                if !is_negative(cell.a_signed, a.width, a.number) {
-                    return put_shifted(op, cell, nets, a, b, into);
-                }
+    let width = into.width();
+    match (
+        whole_value(cell.a.as_slice(), nets),
+        whole_value(cell.b.as_slice(), nets),
+    ) {
+        (Some(a), Some(b))
+            if is_one_word(width) && is_one_word(a.width()) && is_one_word(b.width()) => {
+            let (a, b) = (word_of_value(a), word_of_value(b));
+            if !is_negative(cell.a_signed, a.width, a.number) {
+                return put_shifted(op, cell, nets, a, b, into);
             }
         }
+        _ => {}
     }
     shifted_parts(cell, nets, into)
 }

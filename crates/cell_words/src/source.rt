@@ -8,7 +8,7 @@ ghost use Rattle.cell_words.specs.Shifts.{extended, moved};
 use crate::shift::Shift;
 use crate::write::put_part;
 use circuit::Piece;
-use signal_words::{SigReader, sig_width};
+use signal_words::{SigReader, ones_word, sig_width};
 use sim_base::Bits;
 use std::marker::Model;
 
@@ -31,14 +31,6 @@ impl<'a> Model for Extended<'a> {
     ghost view = { λ e. extended e.ones e.signal };
 
     ghost invariant = { λ e. (e.signal.width ≡ e.own) × (e.signal.number < 2 ^ e.own) };
-}
-
-/// The word with `n` digits that are all 1.
-pub fn ones_word(n: u32) -> u64
-    requires { n ≤ 64 }
-    ensures { result ≡ 2 ^ n - 1 }
-{
-    if n == 64 { u64::MAX } else { (1u64 << n) - 1 }
 }
 
 /// A word of `own` digits with `ones` digits 1 in front.

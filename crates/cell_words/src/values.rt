@@ -1,48 +1,18 @@
-//! Values of 1 to 64 bits, each of which has one word.
-ghost use Rattle.std.specs.Prelude.{◌≡◌, ℕ, int_lt, ◌%◌, ◌^◌, ◌<◌, ◌≤◌, ◌==◌, not, true};
-ghost use Rattle.sim_base.specs.BitValue.{bit_value, digit_of};
+//! Words of values of 1 to 64 bits.
+ghost use Rattle.std.specs.Prelude.{◌≡◌, ℕ, int_lt, ◌%◌, ◌^◌, ◌<◌, ◌≤◌, ◌↔◌, true, IsTrue};
+ghost use Rattle.sim_base.specs.BitValue.{digit_of};
 ghost use Rattle.circuit.specs.Output.{Inputs, formula, left, modulo, operand, right, truth};
 ghost use Rattle.cell_words.specs.Shifts.{is_below_zero};
 ghost use Rattle.cell_words.specs.Kinds.{is_comparison, is_modular};
 
 use circuit::Op;
-use sim_base::Bits;
 
 /// Whether a value of this width has one word.
 #[inline(always)]
 pub fn is_one_word(width: u32) -> bool
-    ensures some { result ≡ true → 0 < width }
-    ensures small { result ≡ true → width ≤ 64 }
+    ensures { IsTrue result ↔ ((0 < width) × (width ≤ 64)) }
 {
     width > 0 && width <= 64
-}
-
-/// The number of a value of one word, which is read without a test.
-#[inline(always)]
-pub fn only_word(value: &Bits) -> u64
-    requires some { 0 < value.now.width }
-    requires small { value.now.width ≤ 64 }
-    ensures value { result ≡ value.now.number }
-    ensures below { result < 2 ^ value.now.width }
-{
-    let _ = value.width();
-    value.words()[0]
-}
-
-/// Makes a word the number of a value of one word, and tells whether that changed it.
-#[inline(always)]
-pub fn put_only_word(into: &mut Bits, word: u64) -> bool
-    requires some { 0 < into.old.width }
-    requires small { into.old.width ≤ 64 }
-    requires below { word < 2 ^ into.old.width }
-    ensures value { into.new ≡ bit_value into.old.width word }
-    ensures changed { result ≡ not (into.old.number == word) }
-{
-    let changed = only_word(into) != word;
-    if changed {
-        into.put(word);
-    }
-    changed
 }
 
 /// The lowest digits of a word, as many as a value of one word has.

@@ -3,8 +3,8 @@ ghost use Rattle.std.specs.Prelude.{◌≡◌, ℕ, ◌+◌, ◌/◌, ◌%◌, �
 ghost use Rattle.std.specs.Int.{bit_at};
 ghost use Rattle.sim_base.specs.BitValue.{bit_value, digit_after_copy};
 
-use crate::source::ones_word;
 use crate::whole::low_ones;
+use signal_words::{ones_word, put_word};
 use sim_base::Bits;
 
 /// Writes `word`, which has at most `n` digits, to the bits from `at` on, and answers whether that
@@ -43,21 +43,6 @@ fn put_wide(into: &mut Bits, number: u128) -> bool
     let low = put_part(into, 0, 64, low_word(number));
     let high = put_part(into, 64, width - 64, (number >> 64) as u64);
     low | high
-}
-
-/// Makes `word` the number of a value of at most 64 bits, and answers whether that changed it.
-#[inline(always)]
-fn put_word(into: &mut Bits, word: u64) -> bool
-    requires narrow { into.old.width ≤ 64 }
-    requires below { word < 2 ^ into.old.width }
-    ensures value { into.new ≡ bit_value into.old.width word }
-    ensures changed { result ≡ not (into.old.number == word) }
-{
-    let changed = into.word() != word;
-    if changed {
-        into.put(word);
-    }
-    changed
 }
 
 /// Writes as many of the lowest digits of `number` as a value of at most 64 bits has, and answers whether that

@@ -3,7 +3,6 @@ use Rattle.std.proofs.Common.{◌≡◌, ℕ, zero, suc, ◌+◌, ◌*◌, ◌<�
 use Rattle.std.specs.Prelude.{slice_get, nat_le, ◌==◌}
 use Rattle.std.specs.List.{list_all, list_any}
 use Rattle.std.proofs.lemmas.Bool.{and_parts}
-use Rattle.std.proofs.lemmas.Bool.Decides.{nat_tests}
 use Rattle.std.proofs.lemmas.List.{length-map}
 use Rattle.sim_base.specs.BitValue.{BitValue, zeros}
 use Rattle.circuit.specs.Signal.{sig_width}
@@ -21,6 +20,7 @@ use Rattle.circuit.specs.declared.diagnostic.Diag.{Diag}
 use Rattle.circuit.specs.declared.store.Store.{Store}
 use Rattle.signal_words.specs.Values.{widths, IsInside, AreInside, IsSignalOf}
 use Rattle.signal_words.specs.Stores.{IsStoreOf, IsCellOf}
+use Rattle.signal_words.proofs.Told.{eq_from, le_from}
 
 -- ---- lists
 
@@ -38,12 +38,6 @@ length_same : {X Y : Type 0} (f : X → ℕ) (g : Y → ℕ) (xs : List X) (ys :
 length_same f g xs ys e = sym (length-map xs f) ∙ ap length e ∙ length-map ys g
 
 -- ---- signals
-
-le_from : (m n : ℕ) → nat_le m n ≡ true → m ≤ n
-le_from m n e = grind (arith, nat_tests)
-
-eq_from : (m n : ℕ) → (m == n) ≡ true → m ≡ n
-eq_from m n e = grind (arith, nat_tests)
 
 net_reached : (xs : List Net) (n end : ℕ) → reaches end (slice_get xs n) ≡ true → (n < length xs) × (end ≤ get_or (map (λ (x : Net). x.width) xs) n 0)
 net_reached [] n end e = cc e

@@ -1,3 +1,5 @@
+pub mod Told
+pub mod Modulo
 pub mod Numbers
 pub mod Signals
 pub mod Single

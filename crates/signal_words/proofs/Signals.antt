@@ -114,12 +114,6 @@ module _ (values : List BitValue) (ps : List Piece) (p : Piece) (qs : List Piece
       let z : sig_number (digits_in values) qs / 2 ^ 0 ≡ sig_number (digits_in values) qs = omega arith in
       z ∙ sym (ap (λ n. n / 2 ^ at / 2 ^ k) number_of_pieces ∙ high_part (sig_number (digits_in values) qs) (piece_width p) (piece_number (digits_in values) p) at k lt is)
 
-  pub width_behind : (k : ℕ) → at + k ≡ piece_width p → sig_width qs - 0 ≡ sig_width ps - at - k
-  width_behind k is = omega (arith, width_of_pieces, is)
-
-  pub width_left : at ≤ piece_width p → sig_width ps - at ≡ piece_width p - at + sig_width qs
-  width_left le = omega (arith, width_of_pieces, le)
-
 -- nothing is left
 pub number_at_end : (values : List BitValue) (ps : List Piece) (at : ℕ) → length ps ≡ 0 → sig_number (digits_in values) ps / 2 ^ at ≡ 0
 unfolding sig_number

@@ -1,5 +1,6 @@
 -- Signals of one piece, or of none.
 use Rattle.std.proofs.Common.{◌≡◌, ℕ, ◌<◌, ◌≤◌, ◌^◌, List, [], ◌∷◌, length, get_or, refl, ◌∙◌, ap, arith, lit<, Option, Some, None}
+use Rattle.std.proofs.Math.Nat.{pow-le-pow_right}
 use Rattle.std.specs.Borrow.{Bor}
 use Rattle.std.specs.Prelude.{IfSome, slice_index_or}
 use Rattle.sim_base.specs.BitValue.{BitValue, bit_value, number_of_words}
@@ -48,3 +49,11 @@ unfolding number_of_words
 only_word [] some few = absurd (omega arith)
 only_word (w ∷ []) some few = omega arith
 only_word (w ∷ v ∷ ws) some few = absurd (omega arith)
+
+-- the only word of a value that has one
+pub only_word_is : (ws : List ℕ) (number width : ℕ) → number_of_words ws ≡ number → number < 2 ^ width → width ≤ 64 → slice_index_or ws 0 0 ≡ number
+unfolding number_of_words
+only_word_is [] number width is lt le = is
+only_word_is (w ∷ ws) number width is lt le =
+    let p : 2 ^ width ≤ 2 ^ 64 = pow-le-pow_right {n = 2} (lit< tt) {i = width} {j = 64} le in
+    omega (arith, is, lt, p)

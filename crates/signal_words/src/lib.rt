@@ -5,12 +5,15 @@ mod laws;
 mod piece;
 mod reader;
 mod run;
+mod sign;
 mod signal;
+mod values;
 mod word;
 
 pub use laws::{law_of_start, law_of_stores};
-pub use piece::{piece_width, piece_word};
 pub use reader::SigReader;
 pub use run::{PieceReader, one_piece};
+pub use sign::{are_signed, is_negative};
 pub use signal::{sig_bit, sig_field, sig_width, sig_word};
+pub use values::{ones_word, only_word, put_only_word, put_word};
 pub use word::{SigWord, one_word, whole_value, word_of};

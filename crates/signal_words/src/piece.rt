@@ -40,7 +40,7 @@ pub fn piece_field(piece: &Piece, nets: &[Bits], at: u32, n: u32) -> u64
 
 /// The number of a part of a value. Most parts are the whole value, and those need no shift.
 #[inline(always)]
-pub fn part_word(value: &Bits, at: u32, width: u32) -> u64
+fn part_word(value: &Bits, at: u32, width: u32) -> u64
     requires small { width ≤ 64 }
     requires inside { at + width ≤ value.now.width }
     ensures value { result ≡ value.now.number / 2 ^ at % 2 ^ width }

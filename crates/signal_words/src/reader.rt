@@ -65,7 +65,7 @@ impl<'a> SigReader<'a> {
         self.take_across(n)
     }
 
-    /// The same where the first piece may end.
+    /// Reads `n` bits where the first piece may end before them.
     #[inline(never)]
     fn take_across(&mut self, n: u32) -> u64
         requires { n ≤ 64 }

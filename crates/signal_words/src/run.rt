@@ -1,5 +1,5 @@
 //! One piece, read from its least bit on.
-ghost use Rattle.std.specs.Prelude.{◌≡◌, ◌-◌, ◌/◌, ◌%◌, ◌^◌, ◌<◌, ◌≤◌, IfSome};
+ghost use Rattle.std.specs.Prelude.{◌≡◌, ◌-◌, ◌/◌, ◌%◌, ◌^◌, ◌<◌, ◌≤◌, ◌↔◌, length, IfSome, IsSome};
 ghost use Rattle.sim_base.specs.BitValue.{bit_value};
 ghost use Rattle.circuit.specs.Signal.{piece_number, piece_width, sig_value};
 ghost use Rattle.signal_words.specs.Values.{digits_in, AreInside, IsInside};
@@ -94,6 +94,7 @@ pub fn one_piece<'a>(sig: &'a [Piece], nets: &'a [Bits]) -> Option<PieceReader<'
     requires { AreInside nets.now sig.now }
     ensures value { IfSome result (λ reader. reader ≡ sig_value (digits_in nets.now) sig.now) }
     ensures below { IfSome result (λ reader. reader.number < 2 ^ reader.width) }
+    ensures some { IsSome result ↔ (length sig.now ≡ 1) }
 {
     match sig {
         [piece] => Some(PieceReader::new(piece, nets)),

@@ -45,7 +45,7 @@ pub fn sig_word(sig: &[Piece], nets: &[Bits]) -> u64
     word
 }
 
-/// The same as `sig_field` of a signal of any pieces. It stands apart so that `sig_field` stays small.
+/// The number of `n` bits of a signal of any pieces. It stands apart so that `sig_field` stays small.
 #[inline(never)]
 fn field_of_pieces(sig: &[Piece], nets: &[Bits], at: u32, n: u32) -> u64
     requires inside { AreInside nets.now sig.now }

@@ -1,5 +1,5 @@
 //! Signals of one word.
-ghost use Rattle.std.specs.Prelude.{◌≡◌, ◌<◌, ◌≤◌, ◌^◌, IfSome};
+ghost use Rattle.std.specs.Prelude.{◌≡◌, ◌<◌, ◌≤◌, ◌^◌, ◌↔◌, IfSome, IsSome};
 ghost use Rattle.circuit.specs.Signal.{piece_number, piece_width, sig_value, sig_width};
 ghost use Rattle.signal_words.specs.Values.{digits_in, AreInside, IsInside, IsWordOf};
 
@@ -49,8 +49,8 @@ fn word_of_part(piece: &Piece, nets: &[Bits]) -> Option<SigWord>
     Some(SigWord { width, number })
 }
 
-/// The width and the number of a piece, where it has at most 64 bits. Most pieces are whole values, and those
-/// need no cut.
+/// The width and the number of a piece of 1 to 64 bits, or of a part of at most 64. Most pieces are whole values,
+/// and those need no cut.
 #[inline(always)]
 fn word_of_piece(piece: &Piece, nets: &[Bits]) -> Option<SigWord>
     requires { IsInside nets.now piece.now }
@@ -65,7 +65,7 @@ fn word_of_piece(piece: &Piece, nets: &[Bits]) -> Option<SigWord>
     }
 }
 
-/// The width and the number of a signal that is one piece of at most 64 bits, or none. Most signals are, and
+/// The width and the number of a signal that is one piece of 1 to 64 bits, or has no piece. Most signals are, and
 /// they are read without a loop.
 #[inline(always)]
 pub fn one_word(sig: &[Piece], nets: &[Bits]) -> Option<SigWord>
@@ -86,7 +86,8 @@ pub fn one_word(sig: &[Piece], nets: &[Bits]) -> Option<SigWord>
 pub fn word_of(sig: &[Piece], nets: &[Bits]) -> Option<SigWord>
     requires inside { AreInside nets.now sig.now }
     requires fits { sig_width sig.now < 2 ^ 32 }
-    ensures { IfSome result (λ word. IsWordOf nets.now sig.now word.width word.number) }
+    ensures word { IfSome result (λ word. IsWordOf nets.now sig.now word.width word.number) }
+    ensures some { IsSome result ↔ (sig_width sig.now ≤ 64) }
 {
     let width = sig_width(sig);
     if width > 64 {

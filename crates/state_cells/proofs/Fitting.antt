@@ -3,7 +3,6 @@ use Rattle.std.proofs.Common.{◌≡◌, ℕ, ◌+◌, ◌≤◌, cond, List, le
 use Rattle.std.specs.Prelude.{nat_le, ◌==◌}
 use Rattle.std.specs.Str.{is_utf8}
 use Rattle.std.proofs.lemmas.Bool.{and_parts}
-use Rattle.std.proofs.lemmas.Bool.Decides.{nat_tests}
 use Rattle.circuit.specs.Signal.{sig_width}
 use Rattle.circuit.specs.Valid.{diag_fits, is_countable, Ports, ports_of, register_fits, register_has, sig_fits, sig_of, text_fits, trigger_fits, widest, width_where}
 use Rattle.circuit.specs.declared.netlist.Circuit.{Circuit}
@@ -13,14 +12,9 @@ use Rattle.circuit.specs.declared.diagnostic.Diag.{Diag}
 use Rattle.circuit.specs.declared.diagnostic.Trigger.{Trigger}
 use Rattle.circuit.specs.declared.store.Store.{Store}
 use Rattle.signal_words.specs.Values.{AreInside, IsSignalOf}
+pub use Rattle.signal_words.proofs.Told.{eq_from, le_from}
 use Rattle.state_cells.specs.Registers.{HasWidths, IsRegisterOf}
 use Rattle.state_cells.specs.Diagnostics.{IsDiagnosticOf, IsTriggerOf, MayTrigger}
-
-pub le_from : (m n : ℕ) → nat_le m n ≡ true → m ≤ n
-le_from m n e = grind (arith, nat_tests)
-
-pub eq_from : (m n : ℕ) → (m == n) ≡ true → m ≡ n
-eq_from m n e = grind (arith, nat_tests)
 
 -- signals that fit the circuit lie inside the nets of the store
 abbrev pub LieIn : Circuit → Store → Type 0

@@ -17,6 +17,6 @@ returns c =
     let la : sig_width cell.a ≤ m = omega (arith, c.max-width.ensures, c.sig_width.ensures.value ∙ ap sig_width c.as_slice-a.ensures) in
     let lb : sig_width cell.b ≤ m = omega (arith, c.max-width.ensures, c.sig_width-2.ensures.value ∙ ap sig_width c.as_slice-b.ensures) in
     c.same.ensures
-    ∙ ap (λ x. (x == low_of_operand c.operands-one.result.other.low c.operands-one.result.other.left c.operands-one.result.other.high.ones m)) (c.operands-one.ensures.one m)
+    ∙ ap (λ x. (x == low_of_operand c.operands-one.result.1.low c.operands-one.result.1.left c.operands-one.result.1.high.ones m)) (c.operands-one.ensures.one m)
     ∙ ap (λ x. (modulo m (left (inputs_of digits cell)) == x)) (c.operands-one.ensures.other m)
     ∙ operands_equal (cell.a_signed && cell.b_signed) (sig_width cell.a) (sig_width cell.b) m (sig_number digits cell.a) (sig_number digits cell.b) a b la lb

@@ -11,5 +11,5 @@ returns-then-width-to c =
 
 pub returns-then-width-to-2 : goal.returns-then-width-to-2
 returns-then-width-to-2 c =
-    ap (bit_and c.args.number) c.ones.ensures ∙ and_mask c.args.number c.args.to
+    ap (bit_and c.args.number) c.ones_word.ensures ∙ and_mask c.args.number c.args.to
     ∙ cut_operand c.args.signed c.args.number c.args.width c.args.to c.requires.below (omega (arith, c.if-width-to-2.true))

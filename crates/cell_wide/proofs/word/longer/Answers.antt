@@ -9,14 +9,14 @@ use Rattle.cell_wide.proofs.word.longer.Goals.{else-signed-via-then-signed+else-
 pub overflow_sub-result : goal.overflow_sub-result
 overflow_sub-result c =
     let p : 2 ^ c.args.width ≤ 2 ^ c.args.to = pow-le-pow_right {n = 2} (lit< tt) {i = c.args.width} {j = c.args.to} (omega (arith, c.requires.longer)) in
-    omega (arith, p, c.ones.ensures, c.ones-then-is_negative.ensures)
+    omega (arith, p, c.ones_word.ensures, c.ones_word-then-is_negative.ensures)
 
 pub returns-then-is_negative : goal.returns-then-is_negative
 returns-then-is_negative c =
     let p : 2 ^ c.args.width ≤ 2 ^ c.args.to = pow-le-pow_right {n = 2} (lit< tt) {i = c.args.width} {j = c.args.to} (omega (arith, c.requires.longer)) in
     let lt : c.args.number < 2 ^ c.args.to = omega (arith, c.requires.below, p) in
-    ap (λ x. c.args.number + (x - c.ones-then-is_negative.result)) c.ones.ensures
-    ∙ ap (λ x. c.args.number + ((2 ^ c.args.to - 1) - x)) c.ones-then-is_negative.ensures
+    ap (λ x. c.args.number + (x - c.ones_word-then-is_negative.result)) c.ones_word.ensures
+    ∙ ap (λ x. c.args.number + ((2 ^ c.args.to - 1) - x)) c.ones_word-then-is_negative.ensures
     ∙ ap (λ x. x + ((2 ^ c.args.to - 1) - (2 ^ c.args.width - 1))) (sym (mod-eq_of_lt lt))
     ∙ negative_operand c.args.signed c.args.number c.args.width c.args.to c.requires.below c.requires.longer
     (both c.args.signed (bit_at c.args.number (c.args.width - 1) == 1) c.if-signed.true (sym c.is_negative.ensures ∙ c.if-is_negative.true))

@@ -1,6 +1,6 @@
 use Rattle.std.proofs.Common.{◌∙◌, ◌%◌, ◌^◌, ap, refl}
 use Rattle.circuit.specs.Output.{formula, inputs_of}
-use Rattle.cell_words.proofs.Modulo.{modulo_lower}
+use Rattle.signal_words.proofs.Modulo.{modulo_lower}
 use Rattle.cell_words.proofs.arithmetic.word_of_cell.Goals as goal
 
 pub returns : goal.returns

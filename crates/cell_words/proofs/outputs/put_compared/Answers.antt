@@ -30,4 +30,4 @@ returns-clause-value c =
     ∙ ap (λ w. bit_value w (output (digits_in c.args.nets.now) c.args.cell.now)) c.requires.into
 
 pub returns-clause-changed : goal.returns-clause-changed
-returns-clause-changed c = c.put_only_word.ensures.changed ∙ ap (λ n. not (c.args.into.now.number == n)) (number c)
+returns-clause-changed c = c.put_only_word.ensures.told ∙ ap (λ n. not (c.args.into.now.number == n)) (number c)

@@ -5,7 +5,7 @@ use Rattle.sim_base.specs.BitValue.{bit_value}
 use Rattle.circuit.specs.Output.{formula, inputs_of, modulo, output}
 use Rattle.signal_words.specs.Values.{digits_in}
 use Rattle.cell_words.specs.Shifts.{is_below_zero, IsPlain}
-use Rattle.cell_words.proofs.Modulo.{modulo_lower}
+use Rattle.signal_words.proofs.Modulo.{modulo_lower}
 use Rattle.cell_words.proofs.Sources.{unsigned_amount}
 use Rattle.cell_words.proofs.outputs.put_shifted.Goals as goal
 
@@ -40,4 +40,4 @@ returns-clause-value c =
     ∙ ap (λ w. bit_value w (output (digits_in c.args.nets.now) c.args.cell.now)) c.requires.into
 
 pub returns-clause-changed : goal.returns-clause-changed
-returns-clause-changed c = c.put_only_word.ensures.changed ∙ ap (λ n. not (c.args.into.now.number == n)) (number c)
+returns-clause-changed c = c.put_only_word.ensures.told ∙ ap (λ n. not (c.args.into.now.number == n)) (number c)

@@ -5,7 +5,7 @@ use Rattle.sim_base.specs.BitValue.{bit_value}
 use Rattle.circuit.specs.Output.{formula, inputs_of, output}
 use Rattle.signal_words.specs.Values.{digits_in}
 use Rattle.cell_words.specs.Shifts.{is_below_zero, IsPlain}
-use Rattle.cell_words.proofs.Modulo.{modulo_lower}
+use Rattle.signal_words.proofs.Modulo.{modulo_lower}
 use Rattle.cell_words.proofs.outputs.shifted_plain.Goals as goal
 
 plain : (c : goal.After-put_low_word) → IsPlain (inputs_of (digits_in c.args.nets.now) c.args.cell.now) c.args.a.number c.args.b.number

@@ -14,7 +14,7 @@ pub returns-then-width-le64-clause-value : goal.returns-then-width-le64-clause-v
 returns-then-width-le64-clause-value c = c.put_word.ensures.value ∙ ap (bit_value c.args.into.now.width) (word c)
 
 pub returns-then-width-le64-clause-changed : goal.returns-then-width-le64-clause-changed
-returns-then-width-le64-clause-changed c = c.put_word.ensures.changed ∙ ap (λ n. not (c.args.into.now.number == n)) (word c)
+returns-then-width-le64-clause-changed c = c.put_word.ensures.told ∙ ap (λ n. not (c.args.into.now.number == n)) (word c)
 
 words : (c : goal.After-put_wide) → bit_and c.args.number c.low_ones.result ≡ c.args.number % 2 ^ c.args.into.now.width
 words c =

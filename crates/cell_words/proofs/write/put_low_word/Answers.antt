@@ -11,4 +11,4 @@ pub returns-clause-value : goal.returns-clause-value
 returns-clause-value c = c.put_word.ensures.value ∙ ap (bit_value c.args.into.now.width) (word c)
 
 pub returns-clause-changed : goal.returns-clause-changed
-returns-clause-changed c = c.put_word.ensures.changed ∙ ap (λ n. not (c.args.into.now.number == n)) (word c)
+returns-clause-changed c = c.put_word.ensures.told ∙ ap (λ n. not (c.args.into.now.number == n)) (word c)

@@ -1,4 +1,4 @@
-use Rattle.cell_words.proofs.Modulo.{modulo_product}
+use Rattle.signal_words.proofs.Modulo.{modulo_product}
 use Rattle.cell_words.proofs.whole.Whole.product.Goals as goal
 
 pub returns : goal.returns

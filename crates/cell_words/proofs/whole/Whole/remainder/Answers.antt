@@ -1,5 +1,5 @@
 use Rattle.std.proofs.Common.{◌*◌, ◌%◌, ◌^◌, ◌*ℤ◌}
-use Rattle.cell_words.proofs.Modulo.{modulo_product, modulo_difference}
+use Rattle.signal_words.proofs.Modulo.{modulo_product, modulo_difference}
 use Rattle.cell_words.proofs.whole.Whole.remainder.Goals as goal
 
 pub returns : goal.returns

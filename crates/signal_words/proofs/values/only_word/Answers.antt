@@ -1,6 +1,6 @@
 use Rattle.std.proofs.Common.{◌<◌, ◌^◌, sym, subst}
-use Rattle.cell_words.proofs.OneWord.{only_word_is}
-use Rattle.cell_words.proofs.values.only_word.Goals as goal
+use Rattle.signal_words.proofs.Single.{only_word_is}
+use Rattle.signal_words.proofs.values.only_word.Goals as goal
 
 pub returns-clause-value : goal.returns-clause-value
 returns-clause-value c = only_word_is c.words.result.now c.args.value.now.number c.args.value.now.width c.words.ensures.number c.width.ensures.below c.requires.small
