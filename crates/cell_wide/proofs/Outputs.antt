@@ -11,7 +11,6 @@ use Rattle.circuit.specs.Output.{modulo, formula, inputs_of, output, operand, le
 use Rattle.circuit.specs.declared.cell.Cell.{Cell}
 use Rattle.circuit.specs.declared.cell.Op.{Op}
 use Rattle.circuit.specs.declared.cell.Op.TheVariants as op
-use Rattle.signal_words.specs.Written.{IsWritten}
 use Rattle.cell_wide.specs.Words.{combined}
 use Rattle.cell_wide.specs.Kinds.{is_bitwise}
 use Rattle.cell_wide.specs.Below.{combined_below}
@@ -21,9 +20,6 @@ use Rattle.signal_words.proofs.Modulo.{modulo_below, modulo_difference}
 
 pub output_of : (digits : Digits) (c : Cell) (o : Op) → c.op ≡ o → modulo c.width (formula o (inputs_of digits c)) ≡ output digits c
 output_of digits c o is = ap (λ x. modulo c.width (formula x (inputs_of digits c))) (sym is)
-
-pub same_written : (m n : ℕ) (old new : BitValue) (changed : Bool) → m ≡ n → IsWritten m old new changed → IsWritten n old new changed
-same_written m n old new changed e h = subst (λ k. IsWritten k old new changed) e h
 
 -- the complement of the lowest digits of a whole number
 pub inverse_modulo : (w : ℕ) (z : ℤ) → (2 ^ w - 1) - modulo w z ≡ modulo w (pos 0 -ℤ pos 1 -ℤ z)

@@ -16,12 +16,6 @@ use Rattle.cell_wide.specs.Words.{Passes}
 
 -- ---- reading on
 
-pub none_passed : (low : ℕ → ℕ) → low 0 < 2 ^ 0 → Passes low 0 (low 0) low
-none_passed low h w = let z : low 0 ≡ 0 = omega (arith, h) in ap (λ x. x) (let e : 0 + w ≡ w = omega arith in ap low e) ∙ ends (low w) (low 0) z
-  where
-    ends : (a b : ℕ) → b ≡ 0 → a ≡ a * 2 ^ 0 + b
-    ends a b e = omega arith
-
 module _ (low next behind : ℕ → ℕ) (at n word : ℕ) (p : Passes low at (low at) next) (q : Passes next n word behind) (e : word ≡ next n) where
   pub low_more : low (at + n) ≡ word * 2 ^ at + low at
   low_more = p n ∙ ap (λ x. x * 2 ^ at + low at) (sym e)

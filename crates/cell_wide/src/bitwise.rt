@@ -56,19 +56,17 @@ fn unary_wide<'a>(cell: &'a Cell, nets: &'a [Bits], into: &mut Bits) -> bool
 {
     let a = cell.a.as_slice();
     match one_piece(a, nets) {
-        Some(digits) if digits.width() >= cell.width => unary_by(cell, nets, digits, into),
-        _ => unary_by(cell, nets, operand(a, nets, cell.a_signed), into),
+        Some(digits) if digits.width() >= cell.width => unary_by(cell, digits, into),
+        _ => unary_by(cell, operand(a, nets, cell.a_signed), into),
     }
 }
 
 /// `$not` and `$pos` of these digits of the operand.
-fn unary_by<A: Words>(cell: &Cell, nets: &[Bits], digits: A, into: &mut Bits) -> bool
+fn unary_by<A: Words>(cell: &Cell, digits: A, into: &mut Bits) -> bool
     requires kind { is_unary cell.now.op ≡ true }
     requires into { into.old.width ≡ cell.now.width }
-    requires digits { A.low digits into.old.width ≡ modulo into.old.width (first (inputs_of (digits_in nets.now) cell.now)) }
-    ensures { IsWritten (output (digits_in nets.now) cell.now) into.old into.new result }
+    ensures { (nets : Digits) → A.low digits into.old.width ≡ modulo into.old.width (first (inputs_of nets cell.now)) → IsWritten (output nets cell.now) into.old into.new result }
 {
-    let _ = nets;
     let mut digits = digits;
     match cell.op {
         Op::Not => write(&mut Inverse { of: digits }, into),
@@ -145,7 +143,7 @@ fn bitwise_wide<'a>(cell: &'a Cell, nets: &'a [Bits], into: &mut Bits) -> bool
     if let Some(a) = one_piece(cell.a.as_slice(), nets) {
         if let Some(b) = one_piece(cell.b.as_slice(), nets) {
             if a.width() >= cell.width && b.width() >= cell.width {
-                return bitwise_by(cell, nets, a, b, into);
+                return bitwise_by(cell, a, b, into);
             }
         }
     }
@@ -160,24 +158,16 @@ fn bitwise_of_pieces<'a>(cell: &'a Cell, nets: &'a [Bits], into: &mut Bits) -> b
     ensures { IsWritten (output (digits_in nets.now) cell.now) into.old into.new result }
 {
     let (one, other) = operands(cell, nets);
-    bitwise_by(cell, nets, one, other, into)
+    bitwise_by(cell, one, other, into)
 }
 
 /// `$and`, `$or`, `$xor` and `$xnor` of these digits of the operands.
-fn bitwise_by<A: Words, B: Words>(
-    cell: &Cell,
-    nets: &[Bits],
-    one: A,
-    other: B,
-    into: &mut Bits,
-) -> bool
+fn bitwise_by<A: Words, B: Words>(cell: &Cell, one: A, other: B, into: &mut Bits) -> bool
     requires kind { is_bitwise cell.now.op ≡ true }
     requires into { into.old.width ≡ cell.now.width }
-    requires one { A.low one into.old.width ≡ modulo into.old.width (left (inputs_of (digits_in nets.now) cell.now)) }
-    requires other { B.low other into.old.width ≡ modulo into.old.width (right (inputs_of (digits_in nets.now) cell.now)) }
-    ensures { IsWritten (output (digits_in nets.now) cell.now) into.old into.new result }
+    ensures { (nets : Digits) → A.low one into.old.width ≡ modulo into.old.width (left (inputs_of nets cell.now)) → B.low other into.old.width ≡ modulo into.old.width (right (inputs_of nets cell.now))
+        → IsWritten (output nets cell.now) into.old into.new result }
 {
-    let _ = nets;
     match cell.op {
         Op::And => {
             let by = Bitwise::And;

@@ -4,10 +4,12 @@
 
 mod amount;
 mod arithmetic;
+mod computing;
 mod narrow;
 mod outputs;
 mod port;
 mod shift;
+mod shifting;
 mod source;
 mod values;
 mod whole;

@@ -3,6 +3,7 @@ ghost use Rattle.std.specs.Prelude.{◌≡◌, ◌+◌, ◌-◌, ◌*◌, ◌/�
 ghost use Rattle.sim_base.specs.BitValue.{bit_value};
 ghost use Rattle.circuit.specs.Signal.{sig_value, sig_width};
 ghost use Rattle.signal_words.specs.Values.{digits_in, AreInside};
+ghost use Rattle.signal_words.specs.Written.{IsWritten};
 ghost use Rattle.cell_words.specs.Shifts.{extended, moved};
 
 use crate::shift::Shift;
@@ -133,8 +134,7 @@ impl<'a> Source<'a> {
 
 /// Makes the value's number that of the digits, as far as it has bits, and answers whether that changed it.
 pub fn fill(into: &mut Bits, source: &mut Source) -> bool
-    ensures value { into.new ≡ bit_value into.old.width (source.old % 2 ^ into.old.width) }
-    ensures changed { result ≡ not (into.old.number == source.old % 2 ^ into.old.width) }
+    ensures { IsWritten (source.old % 2 ^ into.old.width) into.old into.new result }
 {
     let width = into.width();
     let mut changed = false;

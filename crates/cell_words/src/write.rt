@@ -1,7 +1,8 @@
 //! Numbers written into values of bits.
 ghost use Rattle.std.specs.Prelude.{◌≡◌, ℕ, ◌+◌, ◌/◌, ◌%◌, ◌^◌, ◌<◌, ◌≤◌, ◌==◌, not};
 ghost use Rattle.std.specs.Int.{bit_at};
-ghost use Rattle.sim_base.specs.BitValue.{bit_value, digit_after_copy};
+ghost use Rattle.sim_base.specs.BitValue.{digit_after_copy};
+ghost use Rattle.signal_words.specs.Written.{IsWritten};
 
 use crate::whole::low_ones;
 use signal_words::{ones_word, put_word};
@@ -36,8 +37,7 @@ fn put_wide(into: &mut Bits, number: u128) -> bool
     requires wide { 64 < into.old.width }
     requires narrow { into.old.width ≤ 128 }
     requires below { number < 2 ^ into.old.width }
-    ensures value { into.new ≡ bit_value into.old.width number }
-    ensures changed { result ≡ not (into.old.number == number) }
+    ensures { IsWritten number into.old into.new result }
 {
     let width = into.width();
     let low = put_part(into, 0, 64, low_word(number));
@@ -50,8 +50,7 @@ fn put_wide(into: &mut Bits, number: u128) -> bool
 #[inline(always)]
 pub fn put_low_word(into: &mut Bits, number: u64) -> bool
     requires { into.old.width ≤ 64 }
-    ensures value { into.new ≡ bit_value into.old.width (number % 2 ^ into.old.width) }
-    ensures changed { result ≡ not (into.old.number == number % 2 ^ into.old.width) }
+    ensures { IsWritten (number % 2 ^ into.old.width) into.old into.new result }
 {
     let word = number & ones_word(into.width());
     put_word(into, word)
@@ -62,8 +61,7 @@ pub fn put_low_word(into: &mut Bits, number: u64) -> bool
 #[inline(always)]
 pub fn put_low(into: &mut Bits, number: u128) -> bool
     requires { into.old.width ≤ 128 }
-    ensures value { into.new ≡ bit_value into.old.width (number % 2 ^ into.old.width) }
-    ensures changed { result ≡ not (into.old.number == number % 2 ^ into.old.width) }
+    ensures { IsWritten (number % 2 ^ into.old.width) into.old into.new result }
 {
     let width = into.width();
     if width <= 64 {

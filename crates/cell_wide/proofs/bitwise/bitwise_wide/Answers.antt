@@ -6,22 +6,19 @@ use Rattle.signal_words.specs.Values.{digits_in}
 use Rattle.cell_wide.proofs.Copied.{piece_operand}
 use Rattle.cell_wide.proofs.bitwise.bitwise_wide.Goals as goal
 
-pub bitwise_by-requires-clause-one : goal.bitwise_by-requires-clause-one
-bitwise_by-requires-clause-one c =
+pub returns-then-width-cell-2 : goal.returns-then-width-cell-2
+returns-then-width-cell-2 c =
     let digits = digits_in c.args.nets.now in
     let cell = c.args.cell.now in
-    let sig = c.as_slice.result.now in
-    piece_operand digits (cell.a_signed && cell.b_signed) sig cell.a c.in-Some.a c.args.into.now.width
-    (subst (λ o. IfSome o (λ (r : BitValue). r ≡ sig_value digits sig)) c.in-Some.is c.one_piece.ensures.value)
+    let signed = cell.a_signed && cell.b_signed in
+    let one = c.as_slice.result.now in
+    let other = c.as_slice-in-Some.result.now in
+    c.bitwise_by.ensures digits
+    (piece_operand digits signed one cell.a c.in-Some.a c.args.into.now.width
+    (subst (λ o. IfSome o (λ (r : BitValue). r ≡ sig_value digits one)) c.in-Some.is c.one_piece.ensures.value)
     (subst (λ o. IfSome o (λ (r : BitValue). r.number < 2 ^ r.width)) c.in-Some.is c.one_piece.ensures.below)
-    (omega (arith, c.if-width-cell.true, c.width.ensures, c.requires.ready.into_width)) c.as_slice.ensures
-
-pub bitwise_by-requires-clause-other : goal.bitwise_by-requires-clause-other
-bitwise_by-requires-clause-other c =
-    let digits = digits_in c.args.nets.now in
-    let cell = c.args.cell.now in
-    let sig = c.as_slice-in-Some.result.now in
-    piece_operand digits (cell.a_signed && cell.b_signed) sig cell.b c.in-Some-one_piece.b c.args.into.now.width
-    (subst (λ o. IfSome o (λ (r : BitValue). r ≡ sig_value digits sig)) c.in-Some-one_piece.is c.one_piece-in-Some.ensures.value)
+    (omega (arith, c.if-width-cell.true, c.width.ensures, c.requires.ready.into_width)) c.as_slice.ensures)
+    (piece_operand digits signed other cell.b c.in-Some-one_piece.b c.args.into.now.width
+    (subst (λ o. IfSome o (λ (r : BitValue). r ≡ sig_value digits other)) c.in-Some-one_piece.is c.one_piece-in-Some.ensures.value)
     (subst (λ o. IfSome o (λ (r : BitValue). r.number < 2 ^ r.width)) c.in-Some-one_piece.is c.one_piece-in-Some.ensures.below)
-    (omega (arith, c.if-width-cell-2.true, c.width-then-width-cell.ensures, c.requires.ready.into_width)) c.as_slice-in-Some.ensures
+    (omega (arith, c.if-width-cell-2.true, c.width-then-width-cell.ensures, c.requires.ready.into_width)) c.as_slice-in-Some.ensures)

@@ -6,12 +6,13 @@ use Rattle.signal_words.specs.Values.{digits_in}
 use Rattle.cell_wide.proofs.Copied.{piece_operand}
 use Rattle.cell_wide.proofs.bitwise.unary_wide.Goals as goal
 
-pub unary_by-requires-clause-digits : goal.unary_by-requires-clause-digits
-unary_by-requires-clause-digits c =
+pub returns-in-Some : goal.returns-in-Some
+returns-in-Some c =
     let digits = digits_in c.args.nets.now in
     let cell = c.args.cell.now in
     let sig = c.as_slice-a.result.now in
-    piece_operand digits cell.a_signed sig cell.a c.in-Some.digits c.args.into.now.width
+    c.unary_by.ensures digits
+    (piece_operand digits cell.a_signed sig cell.a c.in-Some.digits c.args.into.now.width
     (subst (λ o. IfSome o (λ (r : BitValue). r ≡ sig_value digits sig)) c.in-Some.is c.one_piece.ensures.value)
     (subst (λ o. IfSome o (λ (r : BitValue). r.number < 2 ^ r.width)) c.in-Some.is c.one_piece.ensures.below)
-    (omega (arith, c.if-width-cell.true, c.width.ensures, c.requires.ready.into_width)) c.as_slice-a.ensures
+    (omega (arith, c.if-width-cell.true, c.width.ensures, c.requires.ready.into_width)) c.as_slice-a.ensures)

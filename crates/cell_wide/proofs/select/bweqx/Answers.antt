@@ -3,7 +3,7 @@ use Rattle.sim_base.specs.BitValue.{BitValue}
 use Rattle.circuit.specs.Output.{output}
 use Rattle.circuit.specs.Signal.{sig_number}
 use Rattle.signal_words.specs.Values.{digits_in}
-use Rattle.cell_wide.proofs.Outputs.{same_written}
+use Rattle.signal_words.proofs.Told.{same_written}
 use Rattle.cell_wide.proofs.Selections.{bweqx_output}
 use Rattle.cell_wide.proofs.select.bweqx.Goals as goal
 

@@ -3,7 +3,7 @@ use Rattle.sim_base.specs.BitValue.{BitValue}
 use Rattle.circuit.specs.Output.{output}
 use Rattle.circuit.specs.Signal.{sig_number, sig_width}
 use Rattle.signal_words.specs.Values.{digits_in}
-use Rattle.cell_wide.proofs.Outputs.{same_written}
+use Rattle.signal_words.proofs.Told.{same_written}
 use Rattle.cell_wide.specs.Words.{low_of_chain, low_of_number}
 use Rattle.cell_wide.proofs.Selections.{concat_output}
 use Rattle.cell_wide.proofs.select.concat.Goals as goal

@@ -1,6 +1,7 @@
 use Rattle.circuit.specs.Output.{output}
 use Rattle.signal_words.specs.Values.{digits_in}
-use Rattle.cell_wide.proofs.Outputs.{same_written, mux_first, mux_second}
+use Rattle.signal_words.proofs.Told.{same_written}
+use Rattle.cell_wide.proofs.Outputs.{mux_first, mux_second}
 use Rattle.cell_wide.proofs.select.mux.Goals as goal
 
 pub returns-then-is_one : goal.returns-then-is_one

@@ -3,7 +3,7 @@ use Rattle.std.specs.Prelude.{◌==◌}
 use Rattle.circuit.specs.Output.{lowest_from, output}
 use Rattle.circuit.specs.Signal.{sig_number, sig_width}
 use Rattle.signal_words.specs.Values.{digits_in}
-use Rattle.cell_wide.proofs.Outputs.{same_written}
+use Rattle.signal_words.proofs.Told.{same_written}
 use Rattle.cell_wide.proofs.Selections.{pmux_output}
 use Rattle.cell_wide.proofs.select.pmux.Goals as goal
 

@@ -1,5 +1,5 @@
 use Rattle.circuit.specs.Output.{modulo, truth}
-use Rattle.cell_wide.proofs.Outputs.{same_written}
+use Rattle.signal_words.proofs.Told.{same_written}
 use Rattle.cell_wide.proofs.Truths.{truth_number}
 use Rattle.cell_wide.proofs.truth.put_truth_wide.Goals as goal
 

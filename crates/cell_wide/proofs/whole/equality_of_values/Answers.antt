@@ -1,7 +1,7 @@
 use Rattle.std.proofs.Common.{◌≡◌, ◌∙◌, sym, ap}
 use Rattle.circuit.specs.Output.{output, modulo, inputs_of, truth}
 use Rattle.signal_words.specs.Values.{digits_in}
-use Rattle.cell_wide.proofs.Outputs.{same_written}
+use Rattle.signal_words.proofs.Told.{same_written}
 use Rattle.cell_wide.proofs.Wholes.{values_equal}
 use Rattle.cell_wide.proofs.whole.equality_of_values.Goals as goal
 

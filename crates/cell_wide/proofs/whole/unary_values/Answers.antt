@@ -1,7 +1,7 @@
 use Rattle.std.proofs.Common.{◌≡◌, ◌∙◌, sym, refl}
 use Rattle.circuit.specs.Output.{output}
 use Rattle.signal_words.specs.Values.{digits_in}
-use Rattle.cell_wide.proofs.Outputs.{same_written}
+use Rattle.signal_words.proofs.Told.{same_written}
 use Rattle.cell_wide.proofs.Wholes.{unary_digits, whole_operand}
 use Rattle.cell_wide.proofs.whole.unary_values.Goals as goal
 

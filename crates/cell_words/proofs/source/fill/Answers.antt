@@ -22,8 +22,8 @@ all c =
     c.width-width.ensures.below
     (subst (λ (k : ℕ). c.loop-done.into.number < 2 ^ k) c.loop-done.invariant.width c.loop-done.invariant.below)
 
-pub returns-clause-value : goal.returns-clause-value
-returns-clause-value c = ap (λ w. bit_value w c.loop-done.into.number) c.loop-done.invariant.width ∙ ap (bit_value c.args.into.now.width) (all c).0
-
-pub returns-clause-changed : goal.returns-clause-changed
-returns-clause-changed c = (all c).1
+pub returns : goal.returns
+returns c = record {
+  value = ap (λ w. bit_value w c.loop-done.into.number) c.loop-done.invariant.width ∙ ap (bit_value c.args.into.now.width) (all c).0;
+  told = (all c).1;
+}

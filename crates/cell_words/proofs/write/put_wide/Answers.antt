@@ -20,10 +20,10 @@ written c =
     (subst new (c.put_part-high.ensures.width ∙ c.put_part-low.ensures.width ∙ sym width) c.put_part-high.ensures.below)
     c.low_word.ensures refl c.put_part-low.ensures.bits c.put_part-low.ensures.changed c.put_part-high.ensures.bits c.put_part-high.ensures.changed
 
-pub returns-clause-value : goal.returns-clause-value
-returns-clause-value c =
-    ap (λ w. bit_value w c.put_part-high.new.into.number) (c.put_part-high.ensures.width ∙ c.put_part-low.ensures.width)
-    ∙ ap (bit_value c.args.into.now.width) (written c).0
-
-pub returns-clause-changed : goal.returns-clause-changed
-returns-clause-changed c = (written c).1
+pub returns : goal.returns
+returns c = record {
+  value =
+      ap (λ w. bit_value w c.put_part-high.new.into.number) (c.put_part-high.ensures.width ∙ c.put_part-low.ensures.width)
+      ∙ ap (bit_value c.args.into.now.width) (written c).0;
+  told = (written c).1;
+}
