@@ -1,5 +1,5 @@
 -- What a register with ports that set and clear each bit takes.
-use Rattle.std.proofs.Common.{◌≡◌, ℕ, Bool, true, false, cond, refl}
+use Rattle.std.proofs.Common.{◌≡◌, ℕ, true, false, cond, refl}
 use Rattle.circuit.specs.Next.{Asked}
 use Rattle.circuit.specs.Valid.{ports_of}
 use Rattle.circuit.specs.declared.register.RegKind.{RegKind}

@@ -1,5 +1,5 @@
 -- The edges of a trigger, bit by bit.
-use Rattle.std.proofs.Common.{◌≡◌, ℕ, suc, ◌+◌, ◌-◌, ◌*◌, ◌/◌, ◌%◌, ◌^◌, ◌<◌, ◌≤◌, List, [], ◌∷◌, length, get_or, drop, Bool, true, false, not, ◌&&◌, ◌||◌, refl, sym, ◌∙◌, ap, subst, arith, add-one, eqb, cond}
+use Rattle.std.proofs.Common.{◌≡◌, ℕ, suc, ◌+◌, ◌/◌, ◌%◌, ◌^◌, ◌<◌, List, [], ◌∷◌, length, get_or, drop, Bool, false, not, ◌&&◌, ◌||◌, refl, sym, ◌∙◌, ap, subst, add-one, eqb, cond}
 use Rattle.std.proofs.lemmas.List.{drop_more}
 use Rattle.circuit.specs.Next.{is_active_at}
 use Rattle.circuit.specs.Run.{some_edge}

@@ -1,20 +1,19 @@
 -- Registers and diagnostics of a valid circuit.
-use Rattle.std.proofs.Common.{◌≡◌, ℕ, ◌+◌, ◌≤◌, cond, List, length, refl, sym, ◌∙◌, arith, Bool, true, false, ◌&&◌, Option, Some, None}
+use Rattle.std.proofs.Common.{◌≡◌, ℕ, ◌≤◌, cond, List, length, true, Option, Some, None}
 use Rattle.std.specs.Prelude.{nat_le, ◌==◌}
-use Rattle.std.specs.Str.{is_utf8}
 use Rattle.std.proofs.lemmas.Bool.{and_parts}
 use Rattle.circuit.specs.Signal.{sig_width}
-use Rattle.circuit.specs.Valid.{diag_fits, is_countable, Ports, ports_of, register_fits, register_has, sig_fits, sig_of, text_fits, trigger_fits, widest, width_where}
+use Rattle.circuit.specs.Valid.{diag_fits, Ports, ports_of, register_fits, register_has, sig_fits, sig_of, trigger_fits, widest, width_where}
 use Rattle.circuit.specs.declared.netlist.Circuit.{Circuit}
 use Rattle.circuit.specs.declared.netlist.Piece.{Piece}
 use Rattle.circuit.specs.declared.register.Reg.{Reg}
 use Rattle.circuit.specs.declared.diagnostic.Diag.{Diag}
 use Rattle.circuit.specs.declared.diagnostic.Trigger.{Trigger}
 use Rattle.circuit.specs.declared.store.Store.{Store}
-use Rattle.signal_words.specs.Values.{AreInside, IsSignalOf}
+use Rattle.signal_words.specs.Values.{IsSignalOf}
 pub use Rattle.signal_words.proofs.Told.{eq_from, le_from}
 use Rattle.state_cells.specs.Registers.{HasWidths, IsRegisterOf}
-use Rattle.state_cells.specs.Diagnostics.{IsDiagnosticOf, IsTriggerOf, MayTrigger}
+use Rattle.state_cells.specs.Diagnostics.{IsDiagnosticOf, MayTrigger}
 
 -- signals that fit the circuit lie inside the nets of the store
 abbrev pub LieIn : Circuit → Store → Type 0

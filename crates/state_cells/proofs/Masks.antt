@@ -1,5 +1,5 @@
 -- Digits of a word that is masked.
-use Rattle.std.proofs.Common.{◌≡◌, ℕ, zero, suc, ◌+◌, ◌-◌, ◌*◌, ◌^◌, ◌<◌, min, max, w64, eqb, cond, bit_and, bit_or, refl, sym, ◌∙◌, ap, arith}
+use Rattle.std.proofs.Common.{◌≡◌, ℕ, zero, suc, ◌-◌, ◌^◌, ◌<◌, min, max, w64, eqb, cond, bit_and, bit_or, refl, ◌∙◌, arith}
 use Rattle.std.proofs.lemmas.Nat.Bits.{bit_at_not, bit_at_and, bit_at_or, bit_at-lt}
 use Rattle.std.specs.Int.{bit_at, bit_not}
 

@@ -1,6 +1,8 @@
 -- Values of bits that are the same.
-use Rattle.std.proofs.Common.{◌≡◌, ℕ, ◌+◌, ◌-◌, ◌/◌, ◌%◌, ◌^◌, ◌<◌, ◌≤◌, ◌↔◌, Bool, true, false, not, eqb, refl, sym, ◌∙◌, ap, subst, mod-eq_of_lt, arith, inl, inr}
+use Rattle.std.proofs.Common.{◌≡◌, ℕ, ◌+◌, ◌-◌, ◌^◌, ◌<◌, ◌↔◌, Bool, true, false, eqb, refl, sym, ◌∙◌, ap, subst, arith, inl, inr}
+use Rattle.std.specs.Prelude.{◌==◌}
 use Rattle.std.proofs.lemmas.Bool.{cases_lt, eq-eqb, ne_eqb}
+use Rattle.std.proofs.lemmas.Bool.Decides.{nat_tests}
 use Rattle.std.proofs.lemmas.Nat.Bits.{same_from_bits, bit_at_above}
 use Rattle.std.specs.Int.{bit_at}
 use Rattle.sim_base.specs.BitValue.{BitValue, bit_value, digit_after_copy}
@@ -29,6 +31,6 @@ copied_value w from old new width same below fits bits =
     let Q : ℕ → Type 0 = λ n. (j : ℕ) → bit_at new.number j ≡ digit_after_copy 0 from.number 0 n old j in
     same_value new from same (copied_all from.width from.number old new.number (subst P same below) fits (subst Q width bits))
 
--- the field of all digits
-pub whole_field : (n width w : ℕ) → w ≡ width → n < 2 ^ width → n / 2 ^ 0 % 2 ^ w ≡ n
-whole_field n width w e lt = rw e (let z : n / 2 ^ 0 ≡ n = omega arith in rw z (mod-eq_of_lt lt))
+-- a number is the other one where that is this one
+pub told_either_way : (m n : ℕ) → (m == n) ≡ (n == m)
+told_either_way m n = grind (arith, nat_tests)

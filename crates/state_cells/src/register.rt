@@ -12,7 +12,7 @@ ghost use Rattle.state_cells.specs.Sources.{has_source, number_of};
 use crate::parts::{active_digits, overlaid, put_part};
 use crate::source::{Source, source_of};
 use circuit::{Piece, Reg, RegKind, Store};
-use signal_words::{SigReader, sig_width, sig_word};
+use signal_words::{SigReader, put_word, sig_width, sig_word};
 use sim_base::Bits;
 
 /// Puts the next value of a register, from the values of the nets in the round before and in this one,
@@ -81,23 +81,10 @@ fn put_signal(sig: &[Piece], nets: &[Bits], into: &mut Bits) -> bool
     ensures changed { result ≡ not (into.new.number == into.old.number) }
 {
     if into.width() <= 64 {
-        put_word(sig_word(sig, nets), into)
+        put_word(into, sig_word(sig, nets))
     } else {
         put_words(sig, nets, into)
     }
-}
-
-/// Puts a word into a value of at most 64 bits.
-fn put_word(word: u64, into: &mut Bits) -> bool
-    requires small { into.old.width ≤ 64 }
-    requires below { word < 2 ^ into.old.width }
-    ensures value { into.new ≡ bit_value into.old.width word }
-    ensures changed { result ≡ not (into.new.number == into.old.number) }
-{
-    let width = into.width();
-    let changed = word != into.field(0, width);
-    into.put(word);
-    changed
 }
 
 /// Puts what a signal of the same width holds, 64 bits at a time.

@@ -76,6 +76,22 @@ fn input_where(holds: bool) -> Source
     if holds { Source::Input } else { Source::Own }
 }
 
+/// The value of the reset where that is active, and else another source.
+fn reset_or(active: bool, other: Source) -> Source
+    ensures number { (a : Asked) (own : ℕ) → number_of result a own ≡ (if active then a.value else number_of other a own) }
+    ensures there { (ports : Ports) → ports.reset ≡ true → has_source ports other ≡ true → has_source ports result ≡ true }
+{
+    if active { Source::Value } else { other }
+}
+
+/// The load where it is active, and else another source.
+fn load_or(active: bool, other: Source) -> Source
+    ensures number { (a : Asked) (own : ℕ) → number_of result a own ≡ (if active then a.load else number_of other a own) }
+    ensures there { (ports : Ports) → ports.load ≡ true → has_source ports other ≡ true → has_source ports result ≡ true }
+{
+    if active { Source::Load } else { other }
+}
+
 /// Where the next value comes from: by the first line of its kind's table that holds.
 pub(crate) fn source_of(reg: &Reg, before: &[Bits], now: &[Bits]) -> Source
     requires { IsRegisterOf before.now now.now reg.now }
@@ -88,69 +104,25 @@ pub(crate) fn source_of(reg: &Reg, before: &[Bits], now: &[Bits]) -> Source
         RegKind::Dffe | RegKind::Dffsre => {
             input_where(edge(reg, before, now) && enabled(reg, now))
         }
-        RegKind::Adff => {
-            if reset(reg, now) {
-                Source::Value
-            } else {
-                input_where(edge(reg, before, now))
-            }
-        }
+        RegKind::Adff => reset_or(reset(reg, now), input_where(edge(reg, before, now))),
         RegKind::Adffe => {
-            if reset(reg, now) {
-                Source::Value
-            } else {
-                input_where(edge(reg, before, now) && enabled(reg, now))
-            }
+            let input = input_where(edge(reg, before, now) && enabled(reg, now));
+            reset_or(reset(reg, now), input)
         }
-        RegKind::Sdff => {
-            if !edge(reg, before, now) {
-                Source::Own
-            } else if reset(reg, now) {
-                Source::Value
-            } else {
-                Source::Input
-            }
+        RegKind::Sdff if edge(reg, before, now) => reset_or(reset(reg, now), Source::Input),
+        RegKind::Sdffe if edge(reg, before, now) => {
+            reset_or(reset(reg, now), input_where(enabled(reg, now)))
         }
-        RegKind::Sdffe => {
-            if !edge(reg, before, now) {
-                Source::Own
-            } else if reset(reg, now) {
-                Source::Value
-            } else {
-                input_where(enabled(reg, now))
-            }
+        RegKind::Sdffce if edge(reg, before, now) && enabled(reg, now) => {
+            reset_or(reset(reg, now), Source::Input)
         }
-        RegKind::Sdffce => {
-            if !(edge(reg, before, now) && enabled(reg, now)) {
-                Source::Own
-            } else if reset(reg, now) {
-                Source::Value
-            } else {
-                Source::Input
-            }
-        }
-        RegKind::Aldff => {
-            if loaded(reg, now) {
-                Source::Load
-            } else {
-                input_where(edge(reg, before, now))
-            }
-        }
+        RegKind::Sdff | RegKind::Sdffe | RegKind::Sdffce | RegKind::Sr => Source::Own,
+        RegKind::Aldff => load_or(loaded(reg, now), input_where(edge(reg, before, now))),
         RegKind::Aldffe => {
-            if loaded(reg, now) {
-                Source::Load
-            } else {
-                input_where(edge(reg, before, now) && enabled(reg, now))
-            }
+            let input = input_where(edge(reg, before, now) && enabled(reg, now));
+            load_or(loaded(reg, now), input)
         }
-        RegKind::Sr => Source::Own,
         RegKind::Dlatch | RegKind::Dlatchsr => input_where(enabled(reg, now)),
-        RegKind::Adlatch => {
-            if reset(reg, now) {
-                Source::Value
-            } else {
-                input_where(enabled(reg, now))
-            }
-        }
+        RegKind::Adlatch => reset_or(reset(reg, now), input_where(enabled(reg, now))),
     }
 }

@@ -1,4 +1,4 @@
-use Rattle.std.proofs.Common.{◌≡◌, ◌+◌, ◌/◌, ◌^◌, ◌∙◌, ◌||◌, List, Bool, [], true, false, drop, length, ap, sym, arith}
+use Rattle.std.proofs.Common.{◌+◌, ◌/◌, ◌^◌, ◌∙◌, ◌||◌, Bool, drop, length, ap, sym, arith}
 use Rattle.std.proofs.lemmas.Nat.{shr-shr}
 use Rattle.std.proofs.Math.ListN.{drop_of_length-le}
 use Rattle.circuit.specs.Run.{some_edge}

@@ -1,4 +1,3 @@
-use Rattle.std.proofs.Common.{◌∙◌}
 use Rattle.state_cells.proofs.Fitting.{register_in, diagnostic_in}
 use Rattle.state_cells.proofs.laws.law_of_rounds.Goals as goal
 

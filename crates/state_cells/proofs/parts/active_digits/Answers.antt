@@ -1,4 +1,3 @@
-use Rattle.std.proofs.Common.{rules}
 use Rattle.state_cells.proofs.Masks.{inverted_digit}
 use Rattle.state_cells.proofs.parts.active_digits.Goals as goal
 

@@ -1,5 +1,5 @@
-use Rattle.std.proofs.Common.{◌≡◌, ◌∙◌, List, Bool, true, false, if◌then◌else◌, ap, sym, subst}
-use Rattle.circuit.specs.Next.{Asked, asked, bit_by_bit, next_number}
+use Rattle.std.proofs.Common.{◌≡◌, ◌∙◌, List, true, false, if◌then◌else◌, ap, sym}
+use Rattle.circuit.specs.Next.{asked, bit_by_bit, next_number}
 use Rattle.circuit.specs.Signal.{sig_number}
 use Rattle.circuit.specs.Valid.{ports_of}
 use Rattle.sim_base.specs.BitValue.{BitValue, bit_value}

@@ -1,6 +1,5 @@
-use Rattle.std.proofs.Common.{◌≡◌, ◌≤◌, ◌+◌, ◌/◌, ◌%◌, ◌^◌, ◌∙◌, cond, ap, sym, arith}
+use Rattle.std.proofs.Common.{◌≡◌, ◌≤◌, ◌+◌, ◌/◌, ◌^◌, ◌∙◌, cond, ap, arith}
 use Rattle.std.proofs.lemmas.Nat.{shr-shr}
-use Rattle.circuit.specs.Next.{asked, bit_by_bit}
 use Rattle.circuit.specs.Signal.{sig_number}
 use Rattle.sim_base.specs.BitValue.{BitValue}
 use Rattle.signal_words.specs.Values.{digits_in}

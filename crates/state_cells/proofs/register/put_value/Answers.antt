@@ -1,6 +1,5 @@
-use Rattle.std.proofs.Common.{◌≡◌, ◌^◌, ◌<◌, ◌∙◌, ℕ, nat_eq, not, ap, sym, subst}
-use Rattle.std.specs.Int.{bit_at}
-use Rattle.sim_base.specs.BitValue.{BitValue, digit_after_copy}
+use Rattle.std.proofs.Common.{◌∙◌, nat_eq, not, ap, sym}
+use Rattle.sim_base.specs.BitValue.{BitValue}
 use Rattle.state_cells.proofs.Same.{copied_value, told_same}
 use Rattle.state_cells.proofs.register.put_value.Goals as goal
 
