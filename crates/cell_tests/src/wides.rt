@@ -156,7 +156,7 @@ fn hold<L: Ledger>(alloc: Global, rows: &[Row], blank: Blank) -> Result<bool, No
 }
 
 #[test]
-fn truths_and_operations_on_each_bit(rt: HostRuntime) -> Result<(), Fail> {
+fn operands_are_extended_by_their_signs(rt: HostRuntime) -> Result<(), Fail> {
     let rows: [Row; 35] = [
         (
             Op::Not,
@@ -464,7 +464,7 @@ fn a_part_is_taken_where_it_is_selected(rt: HostRuntime) -> Result<(), Fail> {
 }
 
 #[test]
-fn worked_rows_and_widths_at_the_edges_of_words(rt: HostRuntime) -> Result<(), Fail> {
+fn widths_at_the_edges_of_words_are_written_whole(rt: HostRuntime) -> Result<(), Fail> {
     let rows: [Row; 27] = [
         (
             Op::Pmux,
@@ -699,7 +699,7 @@ fn worked_rows_and_widths_at_the_edges_of_words(rt: HostRuntime) -> Result<(), F
 }
 
 #[test]
-fn operands_of_the_width_of_the_output(rt: HostRuntime) -> Result<(), Fail> {
+fn values_of_one_width_are_combined_word_by_word(rt: HostRuntime) -> Result<(), Fail> {
     let rows: [Row; 15] = [
         (
             Op::And,

@@ -125,7 +125,7 @@ fn hold<L: Ledger>(alloc: Global, rows: &[Row], blank: Blank) -> Result<bool, No
 }
 
 #[test]
-fn arithmetic_of_up_to_128_bits(rt: HostRuntime) -> Result<(), Fail> {
+fn arithmetic_is_that_of_whole_numbers(rt: HostRuntime) -> Result<(), Fail> {
     let rows: [Row; 42] = [
         (Op::Add, (false, false), (128, 1, 128), (u128::MAX, 1, 0)),
         (Op::Div, (true, true), (8, 8, 8), (0xF9, 2, 0xFD)),
@@ -313,7 +313,7 @@ fn arithmetic_of_up_to_128_bits(rt: HostRuntime) -> Result<(), Fail> {
 }
 
 #[test]
-fn shifts_of_up_to_128_bits(rt: HostRuntime) -> Result<(), Fail> {
+fn shifts_fill_with_zeros_or_the_sign(rt: HostRuntime) -> Result<(), Fail> {
     let rows: [Row; 33] = [
         (Op::Shl, (false, false), (8, 128, 16), (0xFF, 1 << 127, 0)),
         (
@@ -442,7 +442,7 @@ fn shifts_of_up_to_128_bits(rt: HostRuntime) -> Result<(), Fail> {
 }
 
 #[test]
-fn sums_and_comparisons_in_one_word(rt: HostRuntime) -> Result<(), Fail> {
+fn values_of_one_width_are_combined_and_compared_in_one_word(rt: HostRuntime) -> Result<(), Fail> {
     let rows: [Row; 18] = [
         (Op::Add, (false, false), (8, 8, 8), (0xF0, 0x25, 0x15)),
         (
@@ -518,7 +518,7 @@ fn sums_and_comparisons_in_one_word(rt: HostRuntime) -> Result<(), Fail> {
 }
 
 #[test]
-fn shifts_in_one_word(rt: HostRuntime) -> Result<(), Fail> {
+fn values_of_one_word_are_shifted_in_one_word(rt: HostRuntime) -> Result<(), Fail> {
     let rows: [Row; 9] = [
         (Op::Shl, (false, false), (7, 3, 31), (0x7F, 5, 0xFE0)),
         (
@@ -617,7 +617,7 @@ fn hold_wide<L: Ledger>(alloc: Global, rows: &[WideRow], blank: Blank) -> Result
 }
 
 #[test]
-fn shifts_of_many_words(rt: HostRuntime) -> Result<(), Fail> {
+fn shifts_move_digits_from_word_to_word(rt: HostRuntime) -> Result<(), Fail> {
     let sign = 1u64 << 63;
     let rows: [WideRow; 10] = [
         (Op::Shl, (1, 0), 4090, 4096, (4032, u64::MAX << 58)),
