@@ -57,19 +57,3 @@ small_none n le = cond-false (nat_lt n (2 ^ 64)) (Some n) None (le-ltb n (2 ^ 64
 
 pub small_some : (n word : ℕ) → n ≡ word → word < 2 ^ 64 → small n ≡ Some word
 small_some n word e lt = let under : n < 2 ^ 64 = omega arith in cond-true (nat_lt n (2 ^ 64)) (Some n) None (lt-ltb n (2 ^ 64) under) ∙ ap (λ m. Some m) e
-
--- an address that is not below 2 ^ 64 is outside
-pub place_none : (m : Mem) (n : ℕ) → m.offset < 2 ^ 32 → m.size < 2 ^ 32 → small n ≡ None → place_of m n ≡ None
-place_none m n offset size e = elim (cases_lt n (2 ^ 64)) [
-  | inl lt ↦ (let f : small n ≡ Some n = small_some n n refl lt in cc)
-  | inr le ↦
-      (let out : nat_lt n (m.offset + m.size) ≡ false = le-ltb n (m.offset + m.size) (omega arith) in
-      let test : (nat_le m.offset n && nat_lt n (m.offset + m.size)) ≡ false = and_right (nat_le m.offset n) (nat_lt n (m.offset + m.size)) out in
-      cond-false (nat_le m.offset n && nat_lt n (m.offset + m.size)) (Some (n - m.offset)) None test)
-]
-
-pub place_some : (m : Mem) (n address : ℕ) → small n ≡ Some address → address ≡ n
-place_some m n address e = elim (cases_lt n (2 ^ 64)) [
-  | inl lt ↦ (let f : small n ≡ Some n = small_some n n refl lt in cc)
-  | inr le ↦ (let f : small n ≡ None = small_none n le in cc)
-]

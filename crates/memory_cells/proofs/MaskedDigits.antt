@@ -1,5 +1,6 @@
 -- Digits that are written under a mask.
 use Rattle.std.proofs.Common.{◌≡◌, ℕ, zero, suc, ◌+◌, ◌-◌, ◌*◌, ◌/◌, ◌%◌, ◌^◌, ◌<◌, ◌≤◌, min, max, w64, eqb, cond, bit_and, bit_or, refl, sym, ◌∙◌, ap, arith, Bool, true, false}
+use Rattle.std.proofs.lemmas.Bool.{cond_both}
 use Rattle.std.proofs.lemmas.Nat.Bits.{bit_at_not, bit_at_and, bit_at_or, bit_at-lt}
 use Rattle.std.specs.Int.{bit_at, bit_not}
 use Rattle.circuit.specs.Signal.{gathered}
@@ -22,12 +23,8 @@ masked_word own mask word j lt in' =
     chosen (bit_at own j) (bit_at mask j) (bit_at word j) _ (bit_at-lt own j) (bit_at-lt mask j) (bit_at-lt word j)
     (bit_at_or (bit_and own (bit_not w64 mask)) (bit_and word mask) j ∙ ap (λ x. max x (bit_at (bit_and word mask) j)) left ∙ ap (λ x. max (min (bit_at own j) (1 - bit_at mask j)) x) right)
 
-pub cond_below : (b : Bool) (x y : ℕ) → x < 2 → y < 2 → cond b x y < 2
-cond_below true x y a b = a
-cond_below false x y a b = b
-
 pub masked_digit_below : (mask word own i : ℕ) → masked_digit mask word own i < 2
-masked_digit_below mask word own i = cond_below (eqb (bit_at mask i) 1) (bit_at word i) (bit_at own i) (bit_at-lt word i) (bit_at-lt own i)
+masked_digit_below mask word own i = cond_both (eqb (bit_at mask i) 1) (bit_at word i) (bit_at own i) (λ n. n < 2) (λ _. bit_at-lt word i) (λ _. bit_at-lt own i)
 
 pub masked_below : (mask word own w : ℕ) → gathered (masked_digit mask word own) w < 2 ^ w
 masked_below mask word own w = gathered_below w (masked_digit mask word own) (masked_digit_below mask word own)
