@@ -10,6 +10,7 @@ pub mod Starting
 pub mod PortsOver
 pub mod PortsKept
 pub mod RegsAfter
+pub mod Firing
 pub mod Settling
 pub mod Standing
 pub mod Machines

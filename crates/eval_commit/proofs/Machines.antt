@@ -1,25 +1,27 @@
 -- What a machine shows.
-use Rattle.std.proofs.Common.{◌≡◌, ℕ, ◌<◌, List, length, get_or, cond, sym, ◌∙◌, ap, subst, arith, Bool, true, false, Some, None}
-use Rattle.std.specs.Prelude.{slice_get, slice_index}
-use Rattle.std.proofs.lemmas.Option.{none-some}
+use Rattle.std.proofs.Common.{◌≡◌, ℕ, ◌<◌, List, length, map, get_or, cond, refl, sym, ◌∙◌, ap, subst, arith, Bool, true, false, ◌&&◌, Option, Some, None}
+use Rattle.std.specs.Prelude.{is_some, slice_get, slice_index}
+use Rattle.std.proofs.lemmas.Option.{none-some, slice_get-get_or}
 use Rattle.sim_base.specs.BitValue.{BitValue}
-use Rattle.circuit.specs.Run.{Standing, row_in}
+use Rattle.circuit.specs.Run.{Standing, fires_by, rounds_from, row_in, settled}
 use Rattle.circuit.specs.declared.netlist.Circuit.{Circuit}
 use Rattle.circuit.specs.declared.netlist.Net.{Net}
 use Rattle.circuit.specs.declared.memory.Mem.{Mem}
 use Rattle.driver_check.specs.declared.plan.Plan.{Plan}
-use Rattle.driver_check.proofs.Places.{within}
+use Rattle.driver_check.proofs.Places.{found, within}
 use Rattle.memory_cells.specs.Rows.{AreRowsOf, RowValues}
-use Rattle.eval_commit.specs.Machine.{MachineState}
+use Rattle.eval_commit.specs.Fired.{none_fired}
+use Rattle.eval_commit.specs.Machine.{MachineState, after_sample}
 use Rattle.eval_commit.specs.Rounds.{AreRoundsOf, standing_of}
 use Rattle.eval_commit.specs.declared.step.Rounds.{Rounds}
 use Rattle.eval_commit.proofs.Belonging.{fetched, value_read}
+use Rattle.eval_commit.proofs.Firing.{cleared_at}
 use Rattle.eval_commit.proofs.PortsOver.{long_as}
 use Rattle.eval_commit.proofs.Standing.{ports_long, row_kept}
 use Rattle.eval_commit.proofs.Written.{number_in}
 
-abbrev shown : Circuit → Bool → Rounds → MachineState
-shown c stuck r = record { circuit = c; standing = cond stuck None (Some (standing_of r)) }
+abbrev pub shown : Circuit → Bool → Rounds → MachineState
+shown c stuck r = record { circuit = c; standing = cond stuck None (Some (standing_of r)); fired = cond stuck (none_fired c.diags) r.fired }
 
 some_same : {X : Type 0} (x y : X) → Some x ≡ Some y → x ≡ y
 some_same x y e = cc e
@@ -58,3 +60,52 @@ module _ (c : Circuit) (plan : Plan) (stuck : Bool) (r : Rounds) (m : MachineSta
   row_number n i x ys q s at is item standing =
       sym (row_kept r.rows r.ports n q i (omega (arith, are.rows.long, ports_long c r.ports are.ports)) (row_there n x ys q at is item))
       ∙ ap (λ (t : Standing). row_in (slice_get t.state.mems n) i) (stands c stuck r m s view standing)
+
+  -- ---- which diagnostics fired
+
+  view_as : (b : Bool) → stuck ≡ b → shown c b r ≡ m
+  view_as b e = ap (λ (t : Bool). shown c t r) (sym e) ∙ view
+
+  diags_long : length m.circuit.diags ≡ length c.diags
+  diags_long = ap (λ (x : Circuit). length x.diags) circuit_is
+
+  pub none_fired_at : (d : ℕ) → stuck ≡ true → d < length m.circuit.diags → slice_get m.fired d ≡ Some false
+  none_fired_at d e lt =
+      let x = found c.diags d (omega (arith, lt, diags_long)) in
+      sym (ap (λ (y : MachineState). slice_get y.fired d) (view_as true e)) ∙ cleared_at c.diags d x.0 x.1
+
+  pub fired_shown : (d : ℕ) (ys : List Bool) → stuck ≡ false → ys ≡ r.fired → d < length m.circuit.diags → slice_get m.fired d ≡ Some (get_or ys d false)
+  fired_shown d ys e is lt =
+      let long : length ys ≡ length r.fired = ap length is in
+      sym (ap (λ (y : MachineState). slice_get y.fired d) (view_as false e))
+      ∙ sym (ap (λ (fs : List Bool). slice_get fs d) is)
+      ∙ slice_get-get_or ys d false (omega (arith, lt, diags_long, long, are.fired))
+
+  -- ---- a sample more
+
+  pub stays_stuck : (inputs : List ℕ) → stuck ≡ true → m ≡ after_sample m inputs
+  stays_stuck inputs e =
+      let v = view_as true e in
+      let same : shown c true r ≡ after_sample (shown c true r) inputs = refl in
+      sym v ∙ same ∙ ap (λ (x : MachineState). after_sample x inputs) v
+
+  -- what the sample leaves, where that stands
+  left : List ℕ → Option Standing → MachineState
+  left inputs standing = record { circuit = c; standing = standing; fired = map (λ d. is_some standing && fires_by d.trigger d (rounds_from c (Some (standing_of r)) inputs)) c.diags }
+
+  left_is : (inputs : List ℕ) → stuck ≡ false → left inputs (settled c (standing_of r) inputs) ≡ after_sample m inputs
+  unfolding left
+  left_is inputs e = ap (λ (x : MachineState). after_sample x inputs) (view_as false e)
+
+  module _ (k : Circuit) (circuit : k ≡ c) (inputs : List ℕ) (going : stuck ≡ false) (now : Rounds) where
+    pub gets_stuck : settled k (standing_of r) inputs ≡ None → shown c true now ≡ after_sample m inputs
+    unfolding left
+    gets_stuck e = ap (left inputs) (sym (ap (λ (x : Circuit). settled x (standing_of r) inputs) (sym circuit) ∙ e)) ∙ left_is inputs going
+
+    pub goes_on : settled k (standing_of r) inputs ≡ Some (standing_of now) → now.fired ≡ map (λ d. fires_by d.trigger d (rounds_from k (Some (standing_of r)) inputs)) k.diags → shown c false now ≡ after_sample m inputs
+    unfolding left
+    goes_on e fired =
+        ap (λ (fs : List Bool). let x : MachineState = record { circuit = c; standing = Some (standing_of now); fired = fs } in x)
+        (fired ∙ ap (λ (x : Circuit). map (λ d. fires_by d.trigger d (rounds_from x (Some (standing_of r)) inputs)) x.diags) circuit)
+        ∙ ap (left inputs) (sym (ap (λ (x : Circuit). settled x (standing_of r) inputs) (sym circuit) ∙ e))
+        ∙ left_is inputs going

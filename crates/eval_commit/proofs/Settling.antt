@@ -1,5 +1,5 @@
 -- One round more of a sample.
-use Rattle.std.proofs.Common.{◌≡◌, ℕ, suc, ◌+◌, ◌-◌, ◌*◌, ◌<◌, ◌≤◌, List, [], ◌∷◌, length, Bool, true, false, not, ◌&&◌, ◌||◌, Some, None, cond, refl, sym, ◌∙◌, ap, arith, add-one}
+use Rattle.std.proofs.Common.{◌≡◌, ℕ, suc, ◌+◌, ◌-◌, ◌*◌, ◌<◌, ◌≤◌, List, [], ◌∷◌, length, Bool, true, false, not, ◌&&◌, ◌||◌, Some, None, map, cond, refl, sym, ◌∙◌, ap, arith, add-one}
 use Rattle.std.specs.Prelude.{nat_eq}
 use Rattle.std.proofs.Math.Nat.{suc-mul}
 use Rattle.std.specs.Cmp.Lexicographic.{bytes_decides, pointwise}
@@ -7,8 +7,10 @@ use Rattle.std.proofs.lemmas.Bool.{cond-true, cond-false, and_parts}
 use Rattle.circuit.specs.State.{State, Stored, same_stored, same_state}
 use Rattle.circuit.specs.Valuation.{valuation}
 use Rattle.circuit.specs.Next.{next}
-use Rattle.circuit.specs.Run.{rounds_within, settled_within}
+use Rattle.circuit.specs.Run.{Round, fires_by, rounds_within, settled_within}
 use Rattle.circuit.specs.declared.netlist.Circuit.{Circuit}
+use Rattle.eval_commit.specs.Fired.{all_fired_after, none_fired}
+use Rattle.eval_commit.proofs.Firing.{all_fire_over, all_fired_over}
 
 -- ---- a state that is the same
 
@@ -32,13 +34,6 @@ state_same s t e =
     ap (λ (regs : List ℕ). let k : State = record { regs = regs; mems = s.mems } in k) ((bytes_decides s.regs t.regs).0 h.0)
     ∙ ap (λ (mems : List Stored). let k : State = record { regs = t.regs; mems = mems } in k) (all_stored_same s.mems t.mems h.1)
 
--- the registers changed, or the memories
-pub either_changed : (regs mems : Bool) → (not regs || not mems) ≡ not (regs && mems)
-either_changed true true = refl
-either_changed true false = refl
-either_changed false true = refl
-either_changed false false = refl
-
 -- ---- the definitions, one round unfolded
 
 settled_step : (r : ℕ) (c : Circuit) (state : State) (before inputs : List ℕ) → settled_within (suc r) c state before inputs
@@ -50,8 +45,9 @@ pub settled_never : (c : Circuit) (state : State) (before inputs : List ℕ) →
 unfolding settled_within
 settled_never c state before inputs = refl
 
-rounds_step : (r : ℕ) (c : Circuit) (state : State) (before inputs : List ℕ) → length (rounds_within (suc r) c state before inputs)
-    ≡ suc (length (cond (same_state (next c state before (valuation c state inputs)) state) [] (rounds_within r c (next c state before (valuation c state inputs)) (valuation c state inputs) inputs)))
+rounds_step : (r : ℕ) (c : Circuit) (state : State) (before inputs : List ℕ) → rounds_within (suc r) c state before inputs
+    ≡ record { before = before; now = valuation c state inputs }
+    ∷ cond (same_state (next c state before (valuation c state inputs)) state) [] (rounds_within r c (next c state before (valuation c state inputs)) (valuation c state inputs) inputs)
 unfolding rounds_within
 rounds_step r c state before inputs = refl
 
@@ -81,30 +77,41 @@ module _ (c : Circuit) (from to : State) (before now inputs : List ℕ) (nets : 
       ∙ ap (λ s. settled_within r c s (valuation c from inputs) inputs) after_is
       ∙ ap (λ ns. settled_within r c to ns inputs) (sym nets)
 
-  pub last_round : (r : ℕ) → same_state to from ≡ true → length (rounds_within (suc r) c from before inputs) ≡ 1
+  pub last_round : (r : ℕ) → same_state to from ≡ true → rounds_within (suc r) c from before inputs ≡ record { before = before; now = now } ∷ []
   last_round r still =
       rounds_step r c from before inputs
-      ∙ ap (λ rs. suc (length rs)) (cond-true (same_state (next c from before (valuation c from inputs)) from) [] (rounds_within r c (next c from before (valuation c from inputs)) (valuation c from inputs) inputs)
+      ∙ ap (λ (rs : List Round). record { before = before; now = valuation c from inputs } ∷ rs) (cond-true (same_state (next c from before (valuation c from inputs)) from) [] (rounds_within r c (next c from before (valuation c from inputs)) (valuation c from inputs) inputs)
       (ap (λ s. same_state s from) after_is ∙ still))
+      ∙ ap (λ (ns : List ℕ). let rs : List Round = record { before = before; now = ns } ∷ [] in rs) (sym nets)
 
-  pub one_round_more : (r : ℕ) → same_state to from ≡ false → length (rounds_within (suc r) c from before inputs) ≡ suc (length (rounds_within r c to now inputs))
+  pub one_round_more : (r : ℕ) → same_state to from ≡ false → rounds_within (suc r) c from before inputs ≡ record { before = before; now = now } ∷ rounds_within r c to now inputs
   one_round_more r other =
       rounds_step r c from before inputs
-      ∙ ap (λ rs. suc (length rs)) (cond-false (same_state (next c from before (valuation c from inputs)) from) [] (rounds_within r c (next c from before (valuation c from inputs)) (valuation c from inputs) inputs)
+      ∙ ap (λ (rs : List Round). record { before = before; now = valuation c from inputs } ∷ rs) (cond-false (same_state (next c from before (valuation c from inputs)) from) [] (rounds_within r c (next c from before (valuation c from inputs)) (valuation c from inputs) inputs)
       (ap (λ s. same_state s from) after_is ∙ other))
-      ∙ ap (λ s. suc (length (rounds_within r c s (valuation c from inputs) inputs))) after_is
-      ∙ ap (λ ns. suc (length (rounds_within r c to ns inputs))) (sym nets)
+      ∙ ap (λ (s : State). record { before = before; now = valuation c from inputs } ∷ rounds_within r c s (valuation c from inputs) inputs) after_is
+      ∙ ap (λ (ns : List ℕ). record { before = before; now = ns } ∷ rounds_within r c to ns inputs) (sym nets)
 
 -- ---- so many rounds of a sample are done, and this is left of it
 
-pub record IsLeft (c : Circuit) (inputs : List ℕ) (first : State) (nets : List ℕ) (done : ℕ) (state : State) (before : List ℕ) : Type 0 where
+pub record IsLeft (c : Circuit) (inputs : List ℕ) (first : State) (nets : List ℕ) (done : ℕ) (state : State) (before : List ℕ) (fired : List Bool) : Type 0 where
   pub rest : settled_within (256 - done) c state before inputs ≡ settled_within 256 c first nets inputs
   pub counted : done + length (rounds_within (256 - done) c state before inputs) ≡ length (rounds_within 256 c first nets inputs)
+  pub flags : all_fired_over c.diags fired (rounds_within (256 - done) c state before inputs) ≡ all_fired_over c.diags (none_fired c.diags) (rounds_within 256 c first nets inputs)
 
-pub all_left : (c : Circuit) (inputs : List ℕ) (first : State) (nets : List ℕ) → IsLeft c inputs first nets 0 first nets
-all_left c inputs first nets = record { rest = refl; counted = omega arith }
+pub all_left : (c : Circuit) (inputs : List ℕ) (first : State) (nets : List ℕ) (fired : List Bool) → fired ≡ none_fired c.diags → IsLeft c inputs first nets 0 first nets fired
+all_left c inputs first nets fired e = record { rest = refl; counted = omega arith; flags = ap (λ (fs : List Bool). all_fired_over c.diags fs (rounds_within 256 c first nets inputs)) e }
 
-module _ (c : Circuit) (inputs : List ℕ) (first : State) (nets : List ℕ) (done : ℕ) (from : State) (before : List ℕ) (is : IsLeft c inputs first nets done from before) where
+-- what the flags say once all rounds are done
+all_fire : (c : Circuit) (state : State) (before inputs : List ℕ) (r : ℕ)
+    → all_fired_over c.diags (none_fired c.diags) (rounds_within (suc r) c state before inputs) ≡ map (λ d. fires_by d.trigger d (rounds_within (suc r) c state before inputs)) c.diags
+unfolding rounds_within
+all_fire c state before inputs r =
+    let now = valuation c state inputs in
+    let after = next c state before now in
+    all_fire_over c.diags (record { before = before; now = now }) (cond (same_state after state) [] (rounds_within r c after now inputs))
+
+module _ (c : Circuit) (inputs : List ℕ) (first : State) (nets : List ℕ) (done : ℕ) (from : State) (before : List ℕ) (fired : List Bool) (is : IsLeft c inputs first nets done from before fired) where
   opened : done < 256 → 256 - done ≡ suc (256 - (done + 1))
   opened lt = omega arith
 
@@ -114,14 +121,22 @@ module _ (c : Circuit) (inputs : List ℕ) (first : State) (nets : List ℕ) (do
   counted_as : (lt : done < 256) → done + length (rounds_within (suc (256 - (done + 1))) c from before inputs) ≡ length (rounds_within 256 c first nets inputs)
   counted_as lt = ap (λ n. done + length (rounds_within n c from before inputs)) (sym (opened lt)) ∙ is.counted
 
+  flags_as : (lt : done < 256) → all_fired_over c.diags fired (rounds_within (suc (256 - (done + 1))) c from before inputs) ≡ all_fired_over c.diags (none_fired c.diags) (rounds_within 256 c first nets inputs)
+  flags_as lt = ap (λ n. all_fired_over c.diags fired (rounds_within n c from before inputs)) (sym (opened lt)) ∙ is.flags
+
   module _ (to : State) (now : List ℕ) (lt : done < 256) (value : now ≡ valuation c from inputs) (state : to ≡ next c from before now) where
-    pub one_less : same_state to from ≡ false → IsLeft c inputs first nets (done + 1) to now
-    one_less other =
-        let many = one_round_more c from to before now inputs value state (256 - (done + 1)) other in
+    pub one_less : same_state to from ≡ false → (marked : List Bool) → marked ≡ all_fired_after c.diags fired (record { before = before; now = now }) → IsLeft c inputs first nets (done + 1) to now marked
+    one_less other marked e =
+        let more = one_round_more c from to before now inputs value state (256 - (done + 1)) other in
+        let many = ap (length {A = Round}) more in
         let all = counted_as lt in
         record {
           rest = sym (goes_on c from to before now inputs value state (256 - (done + 1)) other) ∙ rest_as lt;
           counted = omega (arith, many, all);
+          flags =
+              ap (λ (fs : List Bool). all_fired_over c.diags fs (rounds_within (256 - (done + 1)) c to now inputs)) e
+              ∙ ap (λ (rs : List Round). all_fired_over c.diags fired rs) (sym more)
+              ∙ flags_as lt;
         }
 
     pub has_settled : same_state to from ≡ true → settled_within 256 c first nets inputs ≡ Some (record { state = to; nets = now })
@@ -129,9 +144,17 @@ module _ (c : Circuit) (inputs : List ℕ) (first : State) (nets : List ℕ) (do
 
     pub settled_in : same_state to from ≡ true → done + 1 ≡ length (rounds_within 256 c first nets inputs)
     settled_in still =
-        let one = last_round c from to before now inputs value state (256 - (done + 1)) still in
+        let one = ap (length {A = Round}) (last_round c from to before now inputs value state (256 - (done + 1)) still) in
         let all = counted_as lt in
         omega (arith, one, all)
+
+    pub has_fired : same_state to from ≡ true → (marked : List Bool) → marked ≡ all_fired_after c.diags fired (record { before = before; now = now })
+        → marked ≡ map (λ d. fires_by d.trigger d (rounds_within 256 c first nets inputs)) c.diags
+    has_fired still marked e =
+        e
+        ∙ ap (λ (rs : List Round). all_fired_over c.diags fired rs) (sym (last_round c from to before now inputs value state (256 - (done + 1)) still))
+        ∙ flags_as lt
+        ∙ all_fire c first nets inputs 255
 
   none_opened : 256 ≤ done → 256 - done ≡ 0
   none_opened le = omega arith

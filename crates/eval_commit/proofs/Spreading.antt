@@ -24,9 +24,6 @@ still_inside vs ws e r h =
     let w : width_at ws r.net ≡ width_at vs r.net = ap (λ (ns : List ℕ). get_or ns r.net 0) e in
     (omega (arith, h.0, l), omega (arith, h.1, w))
 
-pub all_inside : (vs ws : List BitValue) (roots : List Drive) → widths ws ≡ widths vs → AreRootsInside vs roots → AreRootsInside ws roots
-all_inside vs ws roots e h i r at = still_inside vs ws e r (h i r at)
-
 -- ---- a value that is spread
 
 -- the root that the list names at a place
@@ -39,12 +36,6 @@ listed_root roots places w t r listed lt is =
     let h = listed t k at in
     let root : slice_get roots k ≡ Some r = read roots k r (within roots k h.0 h.1) is in
     (at, root, subst (λ (q : Drive). offset_of q.by + q.width ≤ w) (same roots k h.0 r h.1 root) h.2)
-
-pub spread_none : (roots : List Drive) (places : List ℕ) (number : ℕ) (vs : List BitValue) → IsSpread roots places 0 number vs vs
-spread_none roots places number vs = record {
-  taken = λ j k r x lt at cov. absurd (let h : j < 0 = lt in omega arith);
-  kept = λ x out. refl;
-}
 
 pub spread_more : (roots : List Drive) (places : List ℕ) (t number k : ℕ) (r : Drive) (vs ws us : List BitValue) → AreApart roots → slice_get places t ≡ Some k → slice_get roots k ≡ Some r
     → ((x : Bit) → digits_in us x.0 x.1 ≡ cond (covers x.0 x.1 r) (taken_digit number r x) (digits_in ws x.0 x.1))
@@ -76,12 +67,6 @@ spread_more roots places t number k r vs ws us apart at root digits s = record {
 }
 
 -- ---- kept values
-
-pub seed_none : (roots : List Drive) (kept : Kept) (vs : List BitValue) → IsSeeded roots kept 0 vs vs
-seed_none roots kept vs = record {
-  taken = λ i r x v lt cov is e. absurd (let h : i < 0 = lt in omega arith);
-  bare = λ x out. refl;
-}
 
 pub seed_more : (roots : List Drive) (kept : Kept) (t : ℕ) (r : Drive) (vs ws us : List BitValue) → AreApart roots → slice_get roots t ≡ Some r → HasKept kept r
     → ((v : BitValue) (x : Bit) → is_kept r.by ≡ true → kept_value kept r.by ≡ Some v → digits_in us x.0 x.1 ≡ cond (covers x.0 x.1 r) (taken_digit v.number r x) (digits_in ws x.0 x.1))

@@ -1,5 +1,5 @@
 -- What a machine keeps, and what stands before the first sample.
-use Rattle.std.proofs.Common.{◌≡◌, ℕ, zero, suc, ◌≤◌, List, [], ◌∷◌, map, length, refl, sym, ◌∙◌, ap, subst, arith, Some, true}
+use Rattle.std.proofs.Common.{◌≡◌, ℕ, zero, suc, ◌≤◌, List, [], ◌∷◌, map, length, refl, sym, ◌∙◌, ap, subst, arith, Bool, Some, true}
 use Rattle.std.specs.Prelude.{slice_get, slice_index}
 use Rattle.sim_base.specs.BitValue.{BitValue, zeros}
 use Rattle.circuit.specs.Run.{Standing, row_in, start, start_state}
@@ -17,10 +17,12 @@ use Rattle.memory_cells.specs.Rows.{RowValues, start_rows}
 use Rattle.signal_words.specs.Stores.{IsStoreOf}
 use Rattle.signal_words.specs.Values.{numbers, widths}
 use Rattle.eval_commit.specs.Computed.{AreAllRows}
+use Rattle.eval_commit.specs.Fired.{none_fired}
 use Rattle.eval_commit.specs.Round.{IsBlank, input_width}
 use Rattle.eval_commit.specs.Rounds.{ArePortsOf, AreRoundsOf, standing_of, state_of}
 use Rattle.eval_commit.specs.Stored.{kept_state, stored_all}
 use Rattle.eval_commit.specs.declared.step.Rounds.{Rounds}
+use Rattle.eval_commit.proofs.Firing.{none_fired_length}
 use Rattle.eval_commit.proofs.PortsOver.{long_as}
 use Rattle.eval_commit.proofs.PortsKept.{start_ports_wide, start_stored_is}
 use Rattle.eval_commit.proofs.Starting.{first_holds}
@@ -42,7 +44,7 @@ pub zero_numbers : (f : ℕ → ℕ) (nets : List ℕ) → numbers (map (λ net.
 zero_numbers f [] = refl
 zero_numbers f (n ∷ ns) = ap (λ xs. 0 ∷ xs) (zero_numbers f ns)
 
--- the registers, rows and read ports have their start values, and both stores are those of the start
+-- the registers, rows and read ports have their start values, both stores are those of the start, and no diagnostic has fired
 pub record AreFirst (c : Circuit) (r : Rounds) : Type 0 where
   pub regs : r.regs ≡ map (λ x. x.init) c.regs
   pub rows : r.rows ≡ map start_rows c.mems
@@ -50,6 +52,7 @@ pub record AreFirst (c : Circuit) (r : Rounds) : Type 0 where
   pub before : r.before ≡ start_store c
   pub now : r.now ≡ start_store c
   pub rooms : widths r.rooms.items ≡ map (λ m. m.width) c.mems
+  pub fired : r.fired ≡ none_fired c.diags
 
 pub first_rounds : (c : Circuit) (plan : Plan) (r : Rounds) → AreFirst c r → IsStoreOf c (start_store c) → AreAllRows c (map start_rows c.mems) → IsBlank plan.roots (start_store c).nets
     → is_valid c ≡ true → AreRoundsOf c plan r
@@ -62,6 +65,22 @@ first_rounds c plan r is of sized blank valid = record {
   now = subst (IsStoreOf c) (sym is.now) of;
   now_blank = subst (λ (s : Store). IsBlank plan.roots s.nets) (sym is.now) blank;
   rooms = is.rooms;
+  fired = ap length is.fired ∙ none_fired_length c.diags;
+}
+
+-- other flags, as many
+pub flags_put : (c : Circuit) (plan : Plan) (r : Rounds) (fired : List Bool) → AreRoundsOf c plan r → length fired ≡ length r.fired
+    → AreRoundsOf c plan (record { regs = r.regs; rows = r.rows; ports = r.ports; before = r.before; now = r.now; rooms = r.rooms; fired = fired })
+flags_put c plan r fired is e = record {
+  regs = is.regs;
+  rows = is.rows;
+  ports = is.ports;
+  before = is.before;
+  before_blank = is.before_blank;
+  now = is.now;
+  now_blank = is.now_blank;
+  rooms = is.rooms;
+  fired = e ∙ is.fired;
 }
 
 pub first_state : (c : Circuit) (r : Rounds) → AreFirst c r → state_of r ≡ start_state c

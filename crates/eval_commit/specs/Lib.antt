@@ -3,5 +3,6 @@ pub mod Held
 pub mod Computed
 pub mod Round
 pub mod Stored
+pub mod Fired
 pub mod Rounds
 pub mod Machine

@@ -1,5 +1,5 @@
 -- A circuit whose rounds are done over stores.
-use Rattle.std.specs.Prelude.{◌≡◌, List, map, true}
+use Rattle.std.specs.Prelude.{◌≡◌, List, length, map, true}
 use Rattle.circuit.specs.Free.{IsInOrder}
 use Rattle.circuit.specs.Run.{Standing}
 use Rattle.circuit.specs.State.{State}
@@ -29,7 +29,8 @@ pub record IsPlanOf (c : Circuit) (plan : Plan) : Type 0 where
 abbrev pub ArePortsOf : Circuit → List (List BitValue) → Type 0
 ArePortsOf c ports = map widths ports ≡ map (λ m. map (λ _. m.width) m.reads) c.mems
 
--- each value has the width of what it is the value of, and each bit of a net that no root covers is 0
+-- each value has the width of what it is the value of, each bit of a net that no root covers is 0, and there is a flag for
+-- each diagnostic
 pub record AreRoundsOf (c : Circuit) (plan : Plan) (r : Rounds) : Type 0 where
   pub regs : widths r.regs ≡ map (λ x. x.width) c.regs
   pub rows : AreAllRows c r.rows
@@ -39,6 +40,7 @@ pub record AreRoundsOf (c : Circuit) (plan : Plan) (r : Rounds) : Type 0 where
   pub now : IsStoreOf c r.now
   pub now_blank : IsBlank plan.roots r.now.nets
   pub rooms : widths r.rooms.items ≡ map (λ m. m.width) c.mems
+  pub fired : length r.fired ≡ length c.diags
 
 abbrev pub state_of : Rounds → State
 state_of r = kept_state r.regs r.rows r.ports

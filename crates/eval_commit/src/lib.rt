@@ -3,6 +3,7 @@
 #![tactic(auto)]
 
 mod copy;
+mod diagnostics;
 mod machine;
 mod node;
 mod ports;

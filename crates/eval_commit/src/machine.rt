@@ -6,6 +6,7 @@ ghost use Rattle.circuit.specs.Run.{Standing, row_in, start};
 ghost use Rattle.circuit.specs.declared.memory.Mem.{Mem as TheMem};
 ghost use Rattle.circuit.specs.declared.netlist.Net.{Net as TheNet};
 ghost use Rattle.signal_words.specs.Values.{numbers};
+ghost use Rattle.eval_commit.specs.Fired.{none_fired};
 ghost use Rattle.eval_commit.specs.Machine.{after_sample, rounds_of_sample};
 ghost use Rattle.eval_commit.specs.Round.{AreInputsOf};
 ghost use Rattle.eval_commit.specs.Rounds.{IsPlanOf};
@@ -21,8 +22,8 @@ use std::marker::Model;
 use std::sync::Arc;
 use std::sync::ledger::Ledger;
 
-/// A circuit that goes from sample to sample. Contracts see the circuit, and its state and the numbers of its
-/// nets after the last sample; neither of these once a sample did not settle.
+/// A circuit that goes from sample to sample. Contracts see the circuit, its state and the numbers of its nets
+/// after the last sample, neither of these once a sample did not settle, and which diagnostics fired at it.
 #[derive(Debug, Drop)]
 pub struct Machine {
     circuit: Arc<Circuit>,
@@ -35,12 +36,13 @@ pub struct Machine {
 impl Model for Machine {
     ghost use Rattle.std.specs.Prelude.{Some, None, if◌then◌else◌};
     ghost use Rattle.std.specs.Arc.{arc_value};
+    ghost use Rattle.eval_commit.specs.Fired.{none_fired};
     ghost use Rattle.eval_commit.specs.Machine.{MachineState};
     ghost use Rattle.eval_commit.specs.Rounds.{AreRoundsOf, IsPlanOf, standing_of};
 
     ghost Value = { MachineState };
 
-    ghost view = { λ m. record { circuit = arc_value m.circuit; standing = if m.stuck then None else Some (standing_of m.rounds) } };
+    ghost view = { λ m. record { circuit = arc_value m.circuit; standing = if m.stuck then None else Some (standing_of m.rounds); fired = if m.stuck then none_fired (arc_value m.circuit).diags else m.rounds.fired } };
 
     ghost invariant = { λ m. IsPlanOf (arc_value m.circuit) m.plan × AreRoundsOf (arc_value m.circuit) m.plan m.rounds };
 }
@@ -50,7 +52,7 @@ impl Machine {
     /// these give under inputs that are all 0. Without memory the circuit's handle and the plan are dropped.
     pub fn new(alloc: Global, circuit: Arc<Circuit>, plan: Plan) -> Result<Machine, NoMemory>
         requires { IsPlanOf (arc_value circuit) plan }
-        ensures { IfOk result (λ m. m ≡ record { circuit = arc_value circuit; standing = Some (start (arc_value circuit)) }) }
+        ensures { IfOk result (λ m. m ≡ record { circuit = arc_value circuit; standing = Some (start (arc_value circuit)); fired = none_fired (arc_value circuit).diags }) }
     {
         let rounds = Rounds::start(alloc, &circuit, &plan)?;
         Ok(Machine {
@@ -100,5 +102,19 @@ impl Machine {
         ensures row { (s : Standing) → self.now.standing ≡ Some s → into.new ≡ bit_value into.old.width (row_in (slice_get s.state.mems mem) i) }
     {
         self.rounds.rows.as_slice()[mem as usize].row(i, into);
+    }
+
+    /// Whether diagnostic `d` fired at the last sample. One without a trigger did where it is enabled and does
+    /// not hold in the nets that the sample leaves; one with a trigger where in some round of the sample it is
+    /// triggered, enabled and does not hold. None has fired before the first sample, nor once a sample did not
+    /// settle. It takes no memory.
+    pub fn fired(&self, d: u32) -> bool
+        requires { d < length self.now.circuit.diags }
+        ensures { slice_get self.now.fired d ≡ Some result }
+    {
+        if self.stuck {
+            return false;
+        }
+        self.rounds.fired.as_slice()[d as usize]
     }
 }

@@ -1,11 +1,12 @@
 //! The rounds of a sample.
-ghost use Rattle.std.specs.Prelude.{◌≡◌, ℕ, ◌+◌, ◌*◌, Some, None, length};
-ghost use Rattle.circuit.specs.Run.{rounds_from, settled};
+ghost use Rattle.std.specs.Prelude.{◌≡◌, ℕ, ◌+◌, ◌*◌, Some, None, length, map};
+ghost use Rattle.circuit.specs.Run.{fires_by, rounds_from, settled};
 ghost use Rattle.signal_words.specs.Values.{numbers};
 ghost use Rattle.eval_commit.specs.Round.{AreInputsOf};
 ghost use Rattle.eval_commit.specs.Rounds.{AreRoundsOf, IsPlanOf, standing_of};
 ghost use Rattle.eval_commit.specs.declared.settle.Settled.TheVariants as settled_as;
 
+use crate::diagnostics::clear_fired;
 use crate::step::Rounds;
 use circuit::Circuit;
 use driver_check::Plan;
@@ -25,7 +26,7 @@ pub enum Settled {
 }
 
 impl Rounds {
-    /// Does rounds until one changes nothing, at most 256.
+    /// Does rounds until one changes nothing, at most 256, with the diagnostics that fire in them.
     pub(crate) fn settle<L: Ledger>(
         &mut self,
         circuit: &Circuit,
@@ -39,9 +40,11 @@ impl Rounds {
         ensures rounds { AreRoundsOf circuit.now plan.now self.new }
         ensures yes { (n : ℕ) → result ≡ settled_as.Yes n → settled circuit.now (standing_of self.old) (numbers inputs.now) ≡ Some (standing_of self.new) }
         ensures count { (n : ℕ) → result ≡ settled_as.Yes n → n ≡ length (rounds_from circuit.now (Some (standing_of self.old)) (numbers inputs.now)) }
+        ensures fired { (n : ℕ) → result ≡ settled_as.Yes n → self.new.fired ≡ map (λ d. fires_by d.trigger d (rounds_from circuit.now (Some (standing_of self.old)) (numbers inputs.now))) circuit.now.diags }
         ensures no { result ≡ settled_as.No → settled circuit.now (standing_of self.old) (numbers inputs.now) ≡ None }
         ensures steps { steps.new ≡ steps.old + length (rounds_from circuit.now (Some (standing_of self.old)) (numbers inputs.now)) * length circuit.now.cells }
     {
+        clear_fired(&mut self.fired);
         for done in 0..MOST_ROUNDS {
             if !self.round(circuit, plan, inputs, steps) {
                 return Settled::Yes(done + 1);

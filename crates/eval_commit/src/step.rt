@@ -7,9 +7,12 @@ ghost use Rattle.circuit.specs.Valid.{is_valid};
 ghost use Rattle.circuit.specs.Valuation.{valuation};
 ghost use Rattle.driver_check.specs.declared.plan.Plan.{Plan as ThePlan};
 ghost use Rattle.signal_words.specs.Values.{numbers};
+ghost use Rattle.state_cells.specs.Diagnostics.{round_of};
+ghost use Rattle.eval_commit.specs.Fired.{all_fired_after, none_fired};
 ghost use Rattle.eval_commit.specs.Round.{AreInputsOf};
 ghost use Rattle.eval_commit.specs.Rounds.{AreRoundsOf, IsPlanOf, standing_of, state_of};
 
+use crate::diagnostics::{next_fired, start_fired};
 use crate::ports::{Ports, next_mems, put_reads, start_ports};
 use crate::registers::{next_regs, put_regs, start_regs};
 use crate::round::evaluate;
@@ -37,6 +40,8 @@ pub(crate) struct Rounds {
     pub(crate) now: Store,
     /// For each memory room for one of its rows.
     pub(crate) rooms: Vec<Bits>,
+    /// For each diagnostic whether it fired in the rounds of the last sample.
+    pub(crate) fired: Values<bool>,
 }
 
 impl Rounds {
@@ -45,6 +50,7 @@ impl Rounds {
         requires { is_valid circuit.now ≡ true }
         ensures rounds { IfOk result (λ r. (plan : ThePlan) → AreRoundsOf circuit.now plan r) }
         ensures state { IfOk result (λ r. state_of r ≡ start_state circuit.now) }
+        ensures fired { IfOk result (λ r. r.fired ≡ none_fired circuit.now.diags) }
     {
         law_of_start();
         law_of_first_state();
@@ -55,6 +61,7 @@ impl Rounds {
             before: Store::new(alloc, circuit)?,
             now: Store::new(alloc, circuit)?,
             rooms: rooms_of(alloc, circuit)?,
+            fired: start_fired(alloc, circuit)?,
         })
     }
 
@@ -63,6 +70,7 @@ impl Rounds {
         requires { IsPlanOf circuit.now plan.now }
         ensures rounds { IfOk result (λ r. AreRoundsOf circuit.now plan.now r) }
         ensures standing { IfOk result (λ r. standing_of r ≡ start circuit.now) }
+        ensures fired { IfOk result (λ r. r.fired ≡ none_fired circuit.now.diags) }
     {
         law_of_first_state();
         let mut rounds = Rounds::new(alloc, circuit)?;
@@ -88,6 +96,7 @@ impl Rounds {
         requires some { 0 < blank.parts }
         ensures rounds { AreRoundsOf circuit.now plan.now self.new }
         ensures state { state_of self.new ≡ state_of self.old }
+        ensures fired { self.new.fired ≡ self.old.fired }
         ensures nets { numbers self.new.before.nets ≡ valuation circuit.now (state_of self.old) (numbers inputs.now) }
     {
         let mut steps = Steps::<L>::new(blank);
@@ -110,6 +119,7 @@ impl Rounds {
         ensures regs { self.new.regs ≡ self.old.regs }
         ensures rows { self.new.rows ≡ self.old.rows }
         ensures ports { self.new.ports ≡ self.old.ports }
+        ensures fired { self.new.fired ≡ self.old.fired }
         ensures before { self.new.before ≡ self.old.before }
         ensures nets { numbers self.new.now.nets ≡ valuation circuit.now (state_of self.old) (numbers inputs.now) }
         ensures steps { steps.new ≡ steps.old + length circuit.now.cells }
@@ -134,6 +144,7 @@ impl Rounds {
         ensures rounds { AreRoundsOf circuit.now plan.now self.new }
         ensures before { self.new.before ≡ self.old.before }
         ensures now { self.new.now ≡ self.old.now }
+        ensures fired { self.new.fired ≡ self.old.fired }
         ensures state { state_of self.new ≡ next circuit.now (state_of self.old) (numbers self.old.before.nets) (numbers self.old.now.nets) }
         ensures changed { result ≡ not (same_state (state_of self.new) (state_of self.old)) }
     {
@@ -149,8 +160,8 @@ impl Rounds {
         regs_changed | mems_changed
     }
 
-    /// Does one round, and tells whether it changed the state. It takes a step for each cell, and no
-    /// memory.
+    /// Does one round, with the diagnostics that fire in it, and tells whether it changed the state. It takes
+    /// a step for each cell, and no memory.
     pub(crate) fn round<L: Ledger>(
         &mut self,
         circuit: &Circuit,
@@ -164,10 +175,12 @@ impl Rounds {
         ensures rounds { AreRoundsOf circuit.now plan.now self.new }
         ensures nets { numbers self.new.before.nets ≡ valuation circuit.now (state_of self.old) (numbers inputs.now) }
         ensures state { state_of self.new ≡ next circuit.now (state_of self.old) (numbers self.old.before.nets) (numbers self.new.before.nets) }
+        ensures fired { self.new.fired ≡ all_fired_after circuit.now.diags self.old.fired (round_of self.old.before self.new.before) }
         ensures changed { result ≡ not (same_state (state_of self.new) (state_of self.old)) }
         ensures steps { steps.new ≡ steps.old + length circuit.now.cells }
     {
         self.value_nets(circuit, plan, inputs, steps);
+        next_fired(circuit, &self.before, &self.now, &mut self.fired);
         let changed = self.next_state(circuit, plan);
         mem::swap(&mut self.before, &mut self.now);
         changed

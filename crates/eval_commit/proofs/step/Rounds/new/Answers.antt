@@ -3,7 +3,7 @@ use Rattle.eval_commit.proofs.Standing.{AreFirst, first_rounds, first_state}
 use Rattle.eval_commit.proofs.step.Rounds.new.Goals as goal
 
 -- what is made
-abbrev made : goal.In_ok-rooms_of → Rounds
+abbrev made : goal.In_ok-start_fired → Rounds
 made c = record {
   regs = c.in_ok-start_regs.field-0;
   rows = c.in_ok-start_rows.field-0;
@@ -11,9 +11,10 @@ made c = record {
   before = c.in_ok-new.field-0;
   now = c.in_ok-new-2.field-0;
   rooms = c.in_ok-rooms_of.field-0;
+  fired = c.in_ok-start_fired.field-0;
 }
 
-first : (c : goal.In_ok-rooms_of) → AreFirst c.args.circuit.now (made c)
+first : (c : goal.In_ok-start_fired) → AreFirst c.args.circuit.now (made c)
 first c = record {
   regs = c.in_ok-start_regs.ensures;
   rows = c.in_ok-start_rows.ensures;
@@ -21,6 +22,7 @@ first c = record {
   before = c.in_ok-new.ensures;
   now = c.in_ok-new-2.ensures;
   rooms = c.in_ok-rooms_of.ensures;
+  fired = c.in_ok-start_fired.ensures;
 }
 
 pub returns-clause-rounds : goal.returns-clause-rounds

@@ -7,6 +7,6 @@ use Rattle.eval_commit.proofs.step.Rounds.settle.Given as goal
 abbrev pub invariant-loop-done : goal.invariant-loop-done
 invariant-loop-done g l = record {
   fits : AreRoundsOf l.circuit l.plan l.self;
-  left : IsLeft l.circuit (numbers l.inputs) (state_of l.fn.self) (numbers l.fn.self.before.nets) l.done (state_of l.self) (numbers l.self.before.nets);
+  left : IsLeft l.circuit (numbers l.inputs) (state_of l.fn.self) (numbers l.fn.self.before.nets) l.done (state_of l.self) (numbers l.self.before.nets) l.self.fired;
   stepped : l.steps ≡ l.fn.steps + l.done * length l.circuit.cells;
 }
