@@ -8,6 +8,7 @@ ghost use Rattle.driver_check.specs.Sources.{AreSources};
 ghost use Rattle.signal_words.specs.Values.{widths};
 ghost use Rattle.eval_commit.specs.Round.{AreInputsOf};
 
+mod diagnostics;
 mod memories;
 mod parts;
 mod registers;
@@ -166,4 +167,14 @@ fn rows_are_read_and_written_in_a_round(rt: HostRuntime) -> Result<(), Fail> {
     memories::check_seen(&rt, rt.alloc())?;
     memories::check_written(&rt, rt.alloc())?;
     memories::check_last_word(&rt, rt.alloc())
+}
+
+#[test]
+fn diagnostics_fire_where_a_sample_ends_or_at_their_edges(rt: HostRuntime) -> Result<(), Fail> {
+    diagnostics::check_watched(&rt, rt.alloc())
+}
+
+#[test]
+fn none_fires_once_a_sample_does_not_settle(rt: HostRuntime) -> Result<(), Fail> {
+    diagnostics::check_unsettled(&rt, rt.alloc())
 }

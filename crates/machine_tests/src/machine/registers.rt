@@ -10,7 +10,7 @@ use std::process::Abort;
 use std::test::Fail;
 
 /// Adds register n, whose value is that of a net, and which takes a bit at the rising edge of another net.
-fn push_flip_flop(
+pub fn push_flip_flop(
     alloc: Global,
     circuit: &mut Circuit,
     n: u32,
@@ -76,7 +76,7 @@ pub fn check_derived_clock(rt: &impl Abort, alloc: Global) -> Result<(), Fail> {
 }
 
 /// A latch (net 1) that takes its own inverse (net 2) while the input is 1.
-fn push_restless(alloc: Global, circuit: &mut Circuit) -> Result<(), NoMemory> {
+pub fn push_restless(alloc: Global, circuit: &mut Circuit) -> Result<(), NoMemory> {
     let (clk, d) = (Sig::new(alloc), part(alloc, 2, 0, 1)?);
     let mut latch = register(alloc, RegKind::Dlatch, 1, clk, d)?;
     latch.en = part(alloc, 0, 0, 1)?;

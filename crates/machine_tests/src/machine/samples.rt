@@ -188,6 +188,62 @@ fn row_runs<L: Ledger>(
     row_goes(alloc, circuit, &mut machine, rows, inputs, &mut steps)
 }
 
+/// The numbers of the inputs at a sample, and for each diagnostic whether it fires there.
+pub type Fires<'a> = (&'a [u64], &'a [bool]);
+
+/// Whether the diagnostics fired that are wanted, and no other ones.
+fn has_fired(circuit: &Circuit, machine: &Machine, wanted: &[bool]) -> bool
+    requires { machine.now.circuit ≡ circuit.now }
+{
+    let mut same = circuit.diags.len() == wanted.len();
+    let mut d = 0u32;
+    for fired in wanted {
+        if (d as usize) < circuit.diags.len() {
+            same &= machine.fired(d) == *fired;
+        }
+        d = d.saturating_add(1);
+    }
+    same
+}
+
+/// Whether the diagnostics fire at each sample as is wanted, and before the first one as these flags say.
+fn fires_so<L: Ledger>(
+    alloc: Global,
+    circuit: &Circuit,
+    machine: &mut Machine,
+    first: &[bool],
+    samples: &[Fires],
+    steps: &mut Steps<L>,
+) -> Result<bool, Fail>
+    requires { machine.old.circuit ≡ circuit.now }
+{
+    let mut same = has_fired(circuit, machine, first);
+    for (inputs, wanted) in samples {
+        settle_under(alloc, circuit, machine, inputs, steps)?;
+        same &= has_fired(circuit, machine, wanted);
+    }
+    Ok(same)
+}
+
+/// The same with a new machine.
+fn fires_run<L: Ledger>(
+    alloc: Global,
+    circuit: &Arc<Circuit>,
+    plan: Plan,
+    first: &[bool],
+    samples: &[Fires],
+    blank: Blank,
+) -> Result<bool, Fail>
+    requires plan { IsPlanOf (arc_value circuit.now) plan }
+    requires name { blank.name ≡ L.name }
+    requires parts { blank.parts ≡ L.parts }
+    requires some { 0 < blank.parts }
+{
+    let mut machine = Machine::new(alloc, circuit.clone()?, plan)?;
+    let mut steps = Steps::<L>::new(blank);
+    fires_so(alloc, circuit, &mut machine, first, samples, &mut steps)
+}
+
 fn plan_of(alloc: Global, circuit: &Circuit) -> Result<Plan, Fail>
     ensures { IfOk result (λ plan. IsPlanOf circuit.now plan) }
 {
@@ -225,5 +281,19 @@ pub fn check_row(
     let circuit = Arc::new(alloc, circuit)?;
     let plan = plan_of(alloc, &circuit)?;
     assert!(rt; row_runs::<Brand>(alloc, &circuit, plan, rows, inputs, Blank::new(1))?);
+    Ok(())
+}
+
+/// Checks which diagnostics of a circuit have fired first, and at each of these samples.
+pub fn check_fired(
+    rt: &impl Abort,
+    alloc: Global,
+    circuit: Circuit,
+    first: &[bool],
+    samples: &[Fires],
+) -> Result<(), Fail> {
+    let circuit = Arc::new(alloc, circuit)?;
+    let plan = plan_of(alloc, &circuit)?;
+    assert!(rt; fires_run::<Brand>(alloc, &circuit, plan, first, samples, Blank::new(1))?);
     Ok(())
 }
