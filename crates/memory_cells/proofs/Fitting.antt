@@ -1,16 +1,14 @@
 -- Memories of a valid circuit.
-use Rattle.std.proofs.Common.{◌≡◌, ℕ, zero, suc, ◌*◌, ◌<◌, ◌≤◌, List, [], ◌∷◌, length, get_or, map, arith, refl, sym, ◌∙◌, ap, Bool, true, ◌&&◌}
-use Rattle.std.specs.Prelude.{All, Option, Some, None, nat_le, slice_get, ◌==◌}
+use Rattle.std.proofs.Common.{◌≡◌, ℕ, zero, suc, ◌*◌, ◌<◌, List, [], ◌∷◌, length, get_or, map, arith, sym, ◌∙◌, ap, Bool, true}
+use Rattle.std.specs.Prelude.{All, Some, nat_le, slice_get, ◌==◌}
 use Rattle.std.specs.List.{list_all}
 use Rattle.std.proofs.lemmas.Bool.{and_parts}
-use Rattle.circuit.specs.Signal.{sig_width}
-use Rattle.circuit.specs.Valid.{address_width, is_countable, mem_fits, read_fits, sig_fits, sig_of, widest, write_fits}
+use Rattle.circuit.specs.Valid.{address_width, is_countable, mem_fits, read_fits, sig_of, widest, write_fits}
 use Rattle.circuit.specs.declared.netlist.Circuit.{Circuit}
 use Rattle.circuit.specs.declared.memory.Mem.{Mem}
 use Rattle.circuit.specs.declared.memory.ReadPort.{ReadPort}
 use Rattle.circuit.specs.declared.memory.WritePort.{WritePort}
 use Rattle.circuit.specs.declared.store.Store.{Store}
-use Rattle.signal_words.specs.Values.{IsSignalOf}
 use Rattle.state_cells.proofs.Fitting.{LieIn, eq_from, le_from, sig_there}
 use Rattle.memory_cells.specs.Ports.{IsMemoryOf, IsReadPortOf, IsWritePortOf}
 

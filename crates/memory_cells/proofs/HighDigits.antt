@@ -1,11 +1,9 @@
 -- Numbers of which the high digits are 0.
-use Rattle.std.proofs.Common.{◌≡◌, ◌≢◌, ℕ, zero, suc, ◌+◌, ◌-◌, ◌*◌, ◌/◌, ◌%◌, ◌^◌, ◌<◌, ◌≤◌, refl, sym, ◌∙◌, ap, subst, arith, inl, inr, false, ◌&&◌}
-use Rattle.std.specs.Prelude.{Some, None, Option, nat_le, nat_lt, if◌then◌else◌}
-use Rattle.std.proofs.lemmas.Bool.{cases_lt, cond-true, cond-false, lt-ltb, le-ltb, and_right}
+use Rattle.std.proofs.Common.{◌≡◌, ◌≢◌, ℕ, zero, suc, ◌+◌, ◌*◌, ◌/◌, ◌%◌, ◌^◌, ◌<◌, ◌≤◌, refl, sym, ◌∙◌, ap, arith}
+use Rattle.std.specs.Prelude.{Some, None, Option, nat_lt, if◌then◌else◌}
+use Rattle.std.proofs.lemmas.Bool.{cond-true, cond-false, lt-ltb, le-ltb}
 use Rattle.std.proofs.lemmas.Nat.{shr_split, pow-add, pow_pos, mod_below}
 use Rattle.std.proofs.Math.Nat.{pow-le-pow_right}
-use Rattle.circuit.specs.declared.memory.Mem.{Mem}
-use Rattle.memory_cells.specs.Ports.{place_of}
 
 -- what is left from `at` on is a high part of the number, and below there are no digits but those of the word
 pub record HighPart (number left at word : ℕ) : Type 0 where

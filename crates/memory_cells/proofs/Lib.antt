@@ -6,4 +6,4 @@ mod Told
 pub mod ReadAfter
 mod SetPart
 mod Renewed
-mod Fitting
+pub mod Fitting

@@ -1,5 +1,5 @@
 -- The values of read ports after the first of them.
-use Rattle.std.proofs.Common.{◌≡◌, ℕ, zero, suc, ◌+◌, ◌-◌, ◌<◌, ◌≤◌, List, [], ◌∷◌, ◌++◌, length, take, drop, get_or, set, eqb, refl, sym, ◌∙◌, ap, arith, Bool, true, false, not, map, ◌||◌, append_assoc}
+use Rattle.std.proofs.Common.{◌≡◌, ℕ, zero, suc, ◌+◌, ◌-◌, ◌<◌, ◌≤◌, List, [], ◌∷◌, ◌++◌, length, take, drop, get_or, set, eqb, refl, sym, ◌∙◌, ap, arith, Bool, not, map, ◌||◌, append_assoc}
 use Rattle.std.proofs.lemmas.List.{take_more, drop_more, length-take-le, length-append, set-append_right, get_or-append_right, get_or-set_same, take_all, drop_all, append-nil}
 use Rattle.std.proofs.lemmas.List.{length-map, get_or-map, map-set}
 use Rattle.std.proofs.Math.Seq.{map-set_same}

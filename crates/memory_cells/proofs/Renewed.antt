@@ -1,20 +1,20 @@
 -- The rows after the first write ports.
-use Rattle.std.proofs.Common.{◌≡◌, ◌≢◌, ℕ, zero, suc, ◌+◌, ◌-◌, ◌*◌, ◌/◌, ◌%◌, ◌^◌, ◌<◌, ◌≤◌, List, [], ◌∷◌, ◌++◌, length, take, get_or, set, eqb, cond, refl, sym, ◌∙◌, ap, subst, arith, inl, inr, Bool, true, false, not, ◌&&◌, ◌||◌}
-use Rattle.std.specs.Prelude.{Option, Some, None, unwrap_or, nat_le, nat_lt, if◌then◌else◌}
+use Rattle.std.proofs.Common.{◌≡◌, ℕ, zero, suc, ◌+◌, ◌-◌, ◌^◌, ◌<◌, ◌≤◌, List, [], ◌∷◌, ◌++◌, length, take, get_or, set, eqb, refl, sym, ◌∙◌, ap, subst, arith, inl, inr, Bool, true, false, not, ◌&&◌, ◌||◌}
+use Rattle.std.specs.Prelude.{Option, Some, None, unwrap_or, if◌then◌else◌}
 use Rattle.std.specs.List.{list_any}
-use Rattle.std.proofs.lemmas.Bool.{cases_eq, cases_lt, eq-eqb, ne_eqb, le-leb, lt-ltb, cond-true, cond-false}
+use Rattle.std.proofs.lemmas.Bool.{cases_eq, cases_lt, eq-eqb, ne_eqb, cond-true, cond-false}
 use Rattle.std.proofs.lemmas.Bool.Decides.{nat_tests}
 use Rattle.std.proofs.lemmas.Grind.{same_number_lists}
-use Rattle.std.proofs.lemmas.List.{length-set, get_or-set_same, get_or-set_other, set-get_or, take_more, take_all}
+use Rattle.std.proofs.lemmas.List.{length-set, get_or-set_same, get_or-set_other, take_more, take_all}
 use Rattle.std.proofs.lemmas.Nat.Bits.{same_from_bits_below}
 use Rattle.std.specs.Int.{bit_at}
 use Rattle.circuit.specs.Signal.{Digits, sig_number}
-use Rattle.circuit.specs.Next.{all_marked, has_edge, next_row, next_rows, writes_at, written}
+use Rattle.circuit.specs.Next.{all_marked, has_edge, next_row, next_rows, written}
 use Rattle.circuit.specs.State.{is_inside}
 use Rattle.circuit.specs.declared.memory.Mem.{Mem}
 use Rattle.circuit.specs.declared.memory.WritePort.{WritePort}
 use Rattle.memory_cells.specs.Ports.{place_of, place_written, renewed_rows}
-use Rattle.memory_cells.proofs.RowAfter.{one, digit_after, written_cons, written_nil, unwrap_or_else, row_after_bit, row_after_below, row_after_none}
+use Rattle.memory_cells.proofs.RowAfter.{one, written_cons, written_nil, unwrap_or_else, row_after_bit, row_after_below}
 use Rattle.memory_cells.proofs.Told.{same_lists, told_set, told_none, told_one}
 
 -- a port writes to an address

@@ -1,5 +1,5 @@
 -- A row after the first write ports.
-use Rattle.std.proofs.Common.{◌≡◌, ℕ, zero, suc, ◌+◌, ◌-◌, ◌*◌, ◌/◌, ◌%◌, ◌^◌, ◌<◌, ◌≤◌, List, [], ◌∷◌, ◌++◌, length, map, take, get_or, eqb, cond, refl, sym, ◌∙◌, ap, arith, Bool, true, false, ◌&&◌}
+use Rattle.std.proofs.Common.{◌≡◌, ℕ, zero, suc, ◌+◌, ◌^◌, ◌<◌, List, [], ◌∷◌, ◌++◌, length, take, get_or, eqb, cond, refl, sym, ◌∙◌, ap, arith, Bool, true, false, ◌&&◌}
 use Rattle.std.specs.Prelude.{Option, Some, None, unwrap_or, if◌then◌else◌}
 use Rattle.std.proofs.lemmas.List.{take_more, length-map, length-take-le}
 use Rattle.std.proofs.lemmas.Nat.Bits.{bit_at-lt, same_from_bits_below}
@@ -8,7 +8,7 @@ use Rattle.circuit.specs.Signal.{Digits, gathered, sig_number}
 use Rattle.circuit.specs.Next.{all_marked, has_edge, or_else, writes_at, written}
 use Rattle.circuit.specs.declared.memory.WritePort.{WritePort}
 use Rattle.circuit.proofs.Gathered.{gathered_bit, gathered_below}
-use Rattle.memory_cells.specs.Ports.{masked_digit, row_by}
+use Rattle.memory_cells.specs.Ports.{row_by}
 use Rattle.memory_cells.proofs.MaskedDigits.{masked_bit, masked_below}
 
 -- what one port writes to a bit

@@ -1,5 +1,5 @@
 -- Whether a list of numbers changed, told element by element.
-use Rattle.std.proofs.Common.{◌≡◌, ◌≢◌, ℕ, ◌+◌, ◌<◌, List, [], ◌∷◌, length, get_or, set, eqb, refl, sym, ◌∙◌, ap, arith, inl, inr, Bool, true, false, not, ◌||◌, nat_eq}
+use Rattle.std.proofs.Common.{◌≡◌, ◌≢◌, ℕ, ◌<◌, List, length, get_or, set, eqb, refl, sym, ◌∙◌, ap, inl, inr, Bool, true, false, not, ◌||◌, nat_eq}
 use Rattle.std.specs.Cmp.Lexicographic.{pointwise}
 use Rattle.std.proofs.lemmas.Bool.{cases_eq, eq-eqb, ne_eqb}
 use Rattle.std.proofs.lemmas.List.{set-get_or, get_or-set_same}

@@ -1,12 +1,11 @@
-use Rattle.std.proofs.Common.{◌≡◌, ◌*◌, ℕ, List, Bool, true, false, not, ◌&&◌, ◌||◌, length, refl, sym, ◌∙◌, ap}
+use Rattle.std.proofs.Common.{◌≡◌, ℕ, List, Bool, true, false, not, ◌&&◌, ◌||◌, refl, sym, ◌∙◌, ap}
 use Rattle.circuit.specs.Next.{next_reads, next_rows, next_stored}
 use Rattle.circuit.specs.Run.{parts}
-use Rattle.circuit.specs.State.{Stored, same_stored}
+use Rattle.circuit.specs.State.{Stored}
 use Rattle.sim_base.specs.BitValue.{BitValue}
 use Rattle.signal_words.specs.Values.{digits_in, numbers}
 use Rattle.memory_cells.specs.Ports.{stored}
-use Rattle.memory_cells.specs.Rows.{RowValues}
-use Rattle.memory_cells.proofs.Parts.{KeptAs, kept_as, length-parts}
+use Rattle.memory_cells.proofs.Parts.{kept_as, length-parts}
 use Rattle.memory_cells.proofs.Told.{same_lists}
 use Rattle.memory_cells.proofs.clock.clock_ports.Goals as goal
 

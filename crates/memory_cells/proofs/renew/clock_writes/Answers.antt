@@ -1,4 +1,4 @@
-use Rattle.std.proofs.Common.{◌≡◌, ◌<◌, ◌^◌, List, length, get_or, refl, sym, ◌∙◌, ap, arith}
+use Rattle.std.proofs.Common.{List, length, get_or, refl, ◌∙◌, ap, arith}
 use Rattle.circuit.specs.Run.{parts}
 use Rattle.circuit.specs.declared.memory.WritePort.{WritePort}
 use Rattle.signal_words.specs.Values.{digits_in}

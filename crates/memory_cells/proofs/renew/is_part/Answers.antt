@@ -1,6 +1,6 @@
-use Rattle.std.proofs.Common.{◌≡◌, ◌≤◌, ◌+◌, ◌/◌, ◌%◌, ◌^◌, ◌<◌, ℕ, sym, ◌∙◌, ap, subst, arith}
+use Rattle.std.proofs.Common.{sym, ◌∙◌, arith}
 use Rattle.std.proofs.lemmas.Bool.{eq-eqb, ne_eqb}
-use Rattle.memory_cells.proofs.SetPart.{same_none, same_more, same_whole, part_differs}
+use Rattle.memory_cells.proofs.SetPart.{same_more, same_whole, part_differs}
 use Rattle.memory_cells.proofs.renew.is_part.Goals as goal
 
 pub returns-then-field : goal.returns-then-field

@@ -1,5 +1,4 @@
 use Rattle.memory_cells.proofs.MaskedDigits.{masked_word}
-use Rattle.memory_cells.proofs.RowAfter.{row_after_more}
 use Rattle.memory_cells.proofs.write.masked.Goals as goal
 
 pub returns : goal.returns

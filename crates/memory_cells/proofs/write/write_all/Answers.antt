@@ -1,5 +1,4 @@
-use Rattle.std.proofs.Common.{◌≡◌, ◌<◌, ◌+◌, ◌^◌, ◌∙◌, ◌&&◌, eqb, ℕ, List, get_or, length, ap, sym, subst, arith}
-use Rattle.circuit.specs.Next.{has_edge}
+use Rattle.std.proofs.Common.{◌<◌, ◌+◌, ◌^◌, ◌∙◌, ℕ, List, get_or, length, ap, sym, subst, arith}
 use Rattle.circuit.specs.Signal.{sig_number}
 use Rattle.circuit.specs.declared.memory.WritePort.{WritePort}
 use Rattle.sim_base.specs.BitValue.{BitValue}
