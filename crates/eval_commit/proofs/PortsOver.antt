@@ -10,12 +10,6 @@ use Rattle.driver_check.proofs.Places.{read}
 pub long_as : {X Y Z : Type 0} (f : X → Z) (g : Y → Z) (xs : List X) (ys : List Y) → map f xs ≡ map g ys → length xs ≡ length ys
 long_as f g xs ys e = sym (length-map xs f) ∙ ap length e ∙ length-map ys g
 
-pub there_as : {X Y Z : Type 0} (f : X → Z) (g : Y → Z) (xs : List X) (ys : List Y) (i : ℕ) (x : X) (y : Y) → map f xs ≡ map g ys → slice_get xs i ≡ Some x → slice_get ys i ≡ Some y → f x ≡ g y
-there_as f g [] ys i x y e a b = cc a
-there_as f g (u ∷ xs) [] i x y e a b = cc b
-there_as f g (u ∷ xs) (v ∷ ys) zero x y e a b = let p : u ≡ x = cc a in let q : v ≡ y = cc b in let r : f u ≡ g v = cc e in ap f (sym p) ∙ r ∙ ap g q
-there_as f g (u ∷ xs) (v ∷ ys) (suc i) x y e a b = let r : map f xs ≡ map g ys = cc e in there_as f g xs ys i x y r a b
-
 -- an element that is read from a list that is another one
 pub read_as : {X : Type 0} (xs ys : List X) (i : ℕ) (x : X) → ys ≡ xs → i < length ys → x ≡ get_or ys i x → slice_get xs i ≡ Some x
 read_as xs ys i x e lt is = subst (λ (zs : List _). slice_get zs i ≡ Some x) e (read ys i x lt is)

@@ -9,7 +9,8 @@ use Rattle.signal_words.specs.Values.{numbers, widths}
 use Rattle.circuit.specs.Signal.{Digits}
 use Rattle.circuit.specs.Next.{next_number, next_numbers}
 use Rattle.circuit.specs.declared.register.Reg.{Reg}
-use Rattle.eval_commit.proofs.PortsOver.{long_as, over, over_all, over_old, over_put, there_as, told_more, unchanged}
+use Rattle.memory_cells.proofs.Fitting.{same_there}
+use Rattle.eval_commit.proofs.PortsOver.{long_as, over, over_all, over_old, over_put, told_more, unchanged}
 use Rattle.eval_commit.proofs.Written.{put_widths}
 
 next_length : (before now : Digits) (rs : List Reg) (owns : List ℕ) → length rs ≡ length owns → length (next_numbers before now rs owns) ≡ length owns
@@ -44,7 +45,7 @@ pub regs_long : (rs : List Reg) (olds regs : List BitValue) → AreWide rs olds 
 regs_long rs olds regs all wide = long_as (λ (v : BitValue). v.width) (λ (r : Reg). r.width) regs rs (wide ∙ all)
 
 pub reg_wide : (rs : List Reg) (olds regs : List BitValue) (i : ℕ) (r : Reg) (o : BitValue) → AreWide rs olds → widths regs ≡ widths olds → slice_get rs i ≡ Some r → slice_get regs i ≡ Some o → o.width ≡ r.width
-reg_wide rs olds regs i r o all wide at has = there_as (λ (v : BitValue). v.width) (λ (x : Reg). x.width) regs rs i o r (wide ∙ all) has at
+reg_wide rs olds regs i r o all wide at has = same_there (λ (v : BitValue). v.width) (λ (x : Reg). x.width) regs rs i o r (wide ∙ all) has at
 
 -- the values once the first i registers have their next ones
 pub record RegsMore (before now : Digits) (rs : List Reg) (olds regs : List BitValue) (i : ℕ) (changed : Bool) : Type 0 where

@@ -1,5 +1,5 @@
 -- The steps of loops that write the bits of roots.
-use Rattle.std.proofs.Common.{◌≡◌, ℕ, ◌+◌, ◌<◌, ◌≤◌, List, length, get_or, refl, sym, ◌∙◌, ap, subst, arith, inl, inr, true, false, cond, Some}
+use Rattle.std.proofs.Common.{◌≡◌, ℕ, ◌+◌, ◌<◌, ◌≤◌, List, length, get_or, sym, ◌∙◌, ap, subst, arith, inl, inr, true, false, cond, Some}
 use Rattle.std.specs.Prelude.{slice_get, slice_index}
 use Rattle.std.proofs.lemmas.Option.{slice_get-get_or}
 use Rattle.std.proofs.lemmas.Bool.{cases_eq, cases_Bool, cond-true, cond-false, false≢true}
@@ -10,7 +10,7 @@ use Rattle.circuit.specs.declared.netlist.Drive.{Drive}
 use Rattle.driver_check.specs.Depends.{Bit}
 use Rattle.driver_check.proofs.Places.{read, same, within}
 use Rattle.signal_words.specs.Values.{digits_in, width_at, widths}
-use Rattle.eval_commit.specs.Spread.{AreApart, AreRootsInside, IsRootInside, IsSpread, offset_of, taken_digit}
+use Rattle.eval_commit.specs.Spread.{AreApart, IsRootInside, IsSpread, offset_of, taken_digit}
 use Rattle.eval_commit.specs.Held.{HasKept, IsSeeded, Kept, is_kept, kept_value}
 
 -- ---- what stays inside where widths stay

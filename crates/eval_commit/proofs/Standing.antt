@@ -83,6 +83,21 @@ flags_put c plan r fired is e = record {
   fired = e ∙ is.fired;
 }
 
+-- the stores of the round before and of the round change places
+pub stores_swapped : (c : Circuit) (plan : Plan) (r : Rounds) (before now : Store) → AreRoundsOf c plan r → before ≡ r.now → now ≡ r.before
+    → AreRoundsOf c plan (record { regs = r.regs; rows = r.rows; ports = r.ports; before = before; now = now; rooms = r.rooms; fired = r.fired })
+stores_swapped c plan r before now is e f = record {
+  regs = is.regs;
+  rows = is.rows;
+  ports = is.ports;
+  before = subst (IsStoreOf c) (sym e) is.now;
+  before_blank = subst (λ (s : Store). IsBlank plan.roots s.nets) (sym e) is.now_blank;
+  now = subst (IsStoreOf c) (sym f) is.before;
+  now_blank = subst (λ (s : Store). IsBlank plan.roots s.nets) (sym f) is.before_blank;
+  rooms = is.rooms;
+  fired = is.fired;
+}
+
 pub first_state : (c : Circuit) (r : Rounds) → AreFirst c r → state_of r ≡ start_state c
 first_state c r is =
     ap (λ (vs : List BitValue). kept_state vs r.rows r.ports) is.regs

@@ -15,6 +15,5 @@ mod start;
 mod step;
 
 pub use machine::Machine;
-pub use round::evaluate;
 pub use settle::Settled;
-pub use start::{law_of_first_state, rooms_of, start_rows, zero_inputs};
+pub use start::zero_inputs;

@@ -104,17 +104,14 @@ pub(crate) fn next_mems(
     changed
 }
 
-/// Copies the values of the read ports to a store. It takes no memory.
-pub(crate) fn put_reads(circuit: &Circuit, ports: &[Ports], store: &mut Store)
-    requires store { IsStoreOf circuit.now store.old }
-    requires ports { map widths ports.now ≡ map (λ m. map (λ _. m.width) m.reads) circuit.now.mems }
-    ensures store { IsStoreOf circuit.now store.new }
+/// Copies the values of the read ports to a store, and leaves the rest of it. It takes no memory.
+pub(crate) fn put_reads(ports: &[Ports], store: &mut Store)
+    requires { map widths store.old.reads ≡ map widths ports.now }
     ensures nets { store.new.nets ≡ store.old.nets }
     ensures regs { store.new.regs ≡ store.old.regs }
     ensures cells { store.new.cells ≡ store.old.cells }
     ensures reads { store.new.reads ≡ ports.now }
 {
-    let _ = circuit;
     for (m, outs) in ports.iter().enumerate() {
         copy_values(outs.as_slice(), store.reads.at(m));
     }

@@ -4,6 +4,7 @@ ghost use Rattle.circuit.specs.Free.{IsInOrder};
 ghost use Rattle.circuit.specs.State.{State};
 ghost use Rattle.circuit.specs.Valid.{is_valid};
 ghost use Rattle.circuit.specs.Valuation.{digit_at, valuation};
+ghost use Rattle.circuit.specs.declared.netlist.Circuit.{Circuit as TheCircuit};
 ghost use Rattle.driver_check.specs.Ordered.{IsOrdered};
 ghost use Rattle.driver_check.specs.Roots.{AreRoots};
 ghost use Rattle.driver_check.specs.Sources.{AreSources};
@@ -22,16 +23,14 @@ use sim_base::{Bits, Steps};
 use std::sync::ledger::Ledger;
 
 /// Writes the bits of the roots that take constants, inputs, registers and read ports.
-fn seed_store(circuit: &Circuit, plan: &Plan, inputs: &[Bits], store: &mut Store)
-    requires roots { AreRoots circuit.now plan.now.roots }
-    requires inputs { AreInputsOf circuit.now inputs.now }
-    requires store { IsStoreOf circuit.now store.old }
-    ensures store { IsStoreOf circuit.now store.new }
+fn seed_store(plan: &Plan, inputs: &[Bits], store: &mut Store)
+    requires { (c : TheCircuit) × AreRoots c plan.now.roots × AreInputsOf c inputs.now × IsStoreOf c store.old }
+    ensures nets { widths store.new.nets ≡ widths store.old.nets }
+    ensures cells { store.new.cells ≡ store.old.cells }
     ensures regs { store.new.regs ≡ store.old.regs }
     ensures reads { store.new.reads ≡ store.old.reads }
     ensures seeded { IsSeeded plan.now.roots (record { inputs = inputs.now; regs = store.old.regs; reads = store.old.reads }) (length plan.now.roots) store.old.nets store.new.nets }
 {
-    let _ = circuit;
     let regs = store.regs.as_slice();
     let reads = store.reads.as_slice();
     seed(&mut store.nets, plan.roots.as_slice(), inputs, regs, reads);
@@ -40,7 +39,7 @@ fn seed_store(circuit: &Circuit, plan: &Plan, inputs: &[Bits], store: &mut Store
 /// Gives each net the number that it has under the state that the store and the rows hold, and under these
 /// inputs: one value for each, in the order of the circuit's inputs. Each memory lends a room of the width
 /// of its rows. Takes a step for each cell, and no memory.
-pub fn evaluate<L: Ledger>(
+pub(crate) fn evaluate<L: Ledger>(
     circuit: &Circuit,
     plan: &Plan,
     inputs: &[Bits],
@@ -69,7 +68,7 @@ pub fn evaluate<L: Ledger>(
     ensures steps { steps.new ≡ steps.old + length circuit.now.cells }
 {
     one_valuation(circuit);
-    seed_store(circuit, plan, inputs, store);
+    seed_store(plan, inputs, store);
     for node in plan.nodes.as_slice() {
         compute(circuit, plan, *node, rows, rooms, store, steps);
     }

@@ -17,7 +17,7 @@ use sim_base::{Bits, NoMemory};
 use std::alloc::Global;
 
 /// The rows of each memory before the first sample.
-pub fn start_rows(alloc: Global, circuit: &Circuit) -> Result<Values<Rows>, NoMemory>
+pub(crate) fn start_rows(alloc: Global, circuit: &Circuit) -> Result<Values<Rows>, NoMemory>
     requires { is_valid circuit.now ≡ true }
     ensures { IfOk result (λ rows. rows ≡ map start_rows circuit.now.mems) }
 {
@@ -30,7 +30,7 @@ pub fn start_rows(alloc: Global, circuit: &Circuit) -> Result<Values<Rows>, NoMe
 }
 
 /// For each memory room for one of its rows.
-pub fn rooms_of(alloc: Global, circuit: &Circuit) -> Result<Vec<Bits>, NoMemory>
+pub(crate) fn rooms_of(alloc: Global, circuit: &Circuit) -> Result<Vec<Bits>, NoMemory>
     ensures { IfOk result (λ rooms. widths rooms.items ≡ map (λ m. m.width) circuit.now.mems) }
 {
     let mut rooms = Vec::new(alloc);
@@ -50,9 +50,11 @@ fn input_width(circuit: &Circuit, net: u32) -> u32
     }
 }
 
-/// Inputs that are all 0.
+/// Inputs that are all 0, one for each of the circuit's, of the width of its net. A caller gives them other
+/// numbers and hands them to `Machine::settle`.
 pub fn zero_inputs(alloc: Global, circuit: &Circuit) -> Result<Values<Bits>, NoMemory>
-    ensures { IfOk result (λ inputs. inputs ≡ map (λ net. zeros (input_width circuit.now net)) circuit.now.inputs) }
+    ensures inputs { IfOk result (λ inputs. AreInputsOf circuit.now inputs) }
+    ensures zero { IfOk result (λ inputs. inputs ≡ map (λ net. zeros (input_width circuit.now net)) circuit.now.inputs) }
 {
     let mut inputs = Values::new(alloc);
     for net in circuit.inputs.as_slice() {
@@ -62,11 +64,10 @@ pub fn zero_inputs(alloc: Global, circuit: &Circuit) -> Result<Values<Bits>, NoM
 }
 
 /// Before the first sample the store and the rows hold the start state, and all nets are 0.
-pub fn law_of_first_state()
+pub(crate) fn law_of_first_state()
     ensures holds { (c : TheCircuit) → Holds c (map start_rows c.mems) (start_store c) (start_state c) }
     ensures rows { (c : TheCircuit) → AreAllRows c (map start_rows c.mems) }
     ensures blank { (c : TheCircuit) (roots : List TheDrive) → IsBlank roots (start_store c).nets }
-    ensures inputs { (c : TheCircuit) → AreInputsOf c (map (λ net. zeros (input_width c net)) c.inputs) }
 {
     law_of_memories();
 }

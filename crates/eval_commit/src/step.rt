@@ -72,7 +72,6 @@ impl Rounds {
         ensures standing { IfOk result (λ r. standing_of r ≡ start circuit.now) }
         ensures fired { IfOk result (λ r. r.fired ≡ none_fired circuit.now.diags) }
     {
-        law_of_first_state();
         let mut rounds = Rounds::new(alloc, circuit)?;
         let inputs = zero_inputs(alloc, circuit)?;
         rounds.first_nets::<Brand>(circuit, plan, inputs.as_slice(), Blank::new(1));
@@ -125,7 +124,7 @@ impl Rounds {
         ensures steps { steps.new ≡ steps.old + length circuit.now.cells }
     {
         put_regs(self.regs.as_slice(), &mut self.now);
-        put_reads(circuit, self.ports.as_slice(), &mut self.now);
+        put_reads(self.ports.as_slice(), &mut self.now);
         evaluate(
             circuit,
             plan,
@@ -138,17 +137,16 @@ impl Rounds {
     }
 
     /// Gives the registers and the memories their next values, and tells whether one of them changed.
-    fn next_state(&mut self, circuit: &Circuit, plan: &Plan) -> bool
-        requires plan { IsPlanOf circuit.now plan.now }
-        requires rounds { AreRoundsOf circuit.now plan.now self.old }
-        ensures rounds { AreRoundsOf circuit.now plan.now self.new }
+    fn next_state(&mut self, circuit: &Circuit) -> bool
+        requires valid { is_valid circuit.now ≡ true }
+        requires rounds { (plan : ThePlan) × AreRoundsOf circuit.now plan self.old }
+        ensures rounds { (plan : ThePlan) → AreRoundsOf circuit.now plan self.old → AreRoundsOf circuit.now plan self.new }
         ensures before { self.new.before ≡ self.old.before }
         ensures now { self.new.now ≡ self.old.now }
         ensures fired { self.new.fired ≡ self.old.fired }
         ensures state { state_of self.new ≡ next circuit.now (state_of self.old) (numbers self.old.before.nets) (numbers self.old.now.nets) }
         ensures changed { result ≡ not (same_state (state_of self.new) (state_of self.old)) }
     {
-        let _ = plan;
         let regs_changed = next_regs(circuit, &self.before, &self.now, &mut self.regs);
         let mems_changed = next_mems(
             circuit,
@@ -181,7 +179,7 @@ impl Rounds {
     {
         self.value_nets(circuit, plan, inputs, steps);
         next_fired(circuit, &self.before, &self.now, &mut self.fired);
-        let changed = self.next_state(circuit, plan);
+        let changed = self.next_state(circuit);
         mem::swap(&mut self.before, &mut self.now);
         changed
     }

@@ -1,9 +1,12 @@
-//! A circuit with one of each source.
+//! A circuit with one of each source, and the nets that it has.
 use crate::machine::parts::{cell, circuit_of, constant, drive, part, register, value};
+use crate::machine::samples::{check, settles};
 use circuit::{By, Cell, Circuit, Drive, Mem, Op, ReadPort, RegKind};
 use sim_base::{Bits, NoMemory};
 use sqlite_items::Items;
 use std::alloc::Global;
+use std::process::Abort;
+use std::test::Fail;
 
 /// The constant of 70 bits: 5, and 1s in the bits 62, 63, 68 and 69.
 fn wide_constant(alloc: Global) -> Result<Bits, NoMemory> {
@@ -77,7 +80,7 @@ fn memory(alloc: Global) -> Result<Mem, NoMemory> {
 /// An input, a wire of it, its sum with 3, the row at the sum, a constant of 70 bits, a cell that reads the
 /// row and the end of the constant, two bits of the input among bits without a driver, a `$dff` of 4 bits
 /// that begins with 9, and a read port with a clock.
-pub fn one_of_each(alloc: Global) -> Result<Circuit, NoMemory> {
+fn one_of_each(alloc: Global) -> Result<Circuit, NoMemory> {
     let mut circuit = circuit_of(alloc, &[8, 8, 8, 8, 70, 8, 4, 4, 8], 1)?;
     push_drives(alloc, &mut circuit)?;
     circuit.cells = cells_of(alloc)?;
@@ -87,4 +90,18 @@ pub fn one_of_each(alloc: Global) -> Result<Circuit, NoMemory> {
     circuit.regs.push(reg)?;
     circuit.mems.push(memory(alloc)?)?;
     Ok(circuit)
+}
+
+/// Under three inputs nothing changes but the nets that take from the input.
+pub fn check_one_of_each(rt: &impl Abort, alloc: Global) -> Result<(), Fail> {
+    let constant = 0xC000_0000_0000_0005;
+    let high = [0xFE, 0xFE, 1, 0x22, constant, 0xE1, 6, 9, 0x5A];
+    let middle = [0x40, 0x40, 0x43, 0x44, constant, 0x87, 2, 9, 0x5A];
+    let zero = [0, 0, 3, 0x44, constant, 0x87, 0, 9, 0x5A];
+    let samples = [
+        settles(&[0xFE], 1, &high),
+        settles(&[0x40], 1, &middle),
+        settles(&[0], 1, &zero),
+    ];
+    check(rt, alloc, one_of_each(alloc)?, &zero, &samples)
 }

@@ -2,7 +2,8 @@ use Rattle.std.proofs.Common.{◌∙◌, ap, arith, length}
 use Rattle.circuit.specs.declared.memory.Mem.{Mem}
 use Rattle.signal_words.specs.Values.{digits_in, widths}
 use Rattle.eval_commit.specs.Stored.{stored_all}
-use Rattle.eval_commit.proofs.PortsOver.{long_as, read_as, there_as}
+use Rattle.memory_cells.proofs.Fitting.{same_there}
+use Rattle.eval_commit.proofs.PortsOver.{long_as, read_as}
 use Rattle.eval_commit.proofs.PortsKept.{clocked_all, clocked_first, clocked_more, clocked_told, port_widths}
 use Rattle.eval_commit.proofs.ports.next_mems.Goals as goal
 
@@ -27,7 +28,7 @@ clock-changed-requires-clause-rows c =
 pub clock-changed-requires-clause-outs : goal.clock-changed-requires-clause-outs
 clock-changed-requires-clause-outs c =
     let at = read_as c.args.circuit.now.mems c.as_slice-mem-items.result.now c.loop-i.i c.mem-item.result c.as_slice-mem-items.ensures c.loop-i-test.true c.mem-item.is in
-    there_as widths port_widths c.loop-i.ports c.args.circuit.now.mems c.loop-i.i c.at.result.now c.mem-item.result (c.loop-i.invariant.wide ∙ c.requires.ports) c.at.ensures.value at
+    same_there widths port_widths c.loop-i.ports c.args.circuit.now.mems c.loop-i.i c.at.result.now c.mem-item.result (c.loop-i.invariant.wide ∙ c.requires.ports) c.at.ensures.value at
 
 pub loop-i-preserved : goal.loop-i-preserved
 loop-i-preserved c =

@@ -1,5 +1,5 @@
-use Rattle.std.proofs.Common.{◌≡◌, ℕ, length, take, refl, ◌∙◌, ap, subst, arith}
-use Rattle.signal_words.specs.Values.{numbers}
+use Rattle.std.proofs.Common.{◌≡◌, ℕ, length, map, take, refl, ◌∙◌, ap, subst, arith}
+use Rattle.signal_words.specs.Values.{numbers, widths}
 use Rattle.circuit.specs.Valuation.{digit_at}
 use Rattle.driver_check.specs.declared.plan.Node.TheVariants as node
 use Rattle.eval_commit.specs.Computed.{steps_of}
@@ -13,9 +13,17 @@ use Rattle.eval_commit.proofs.Valued.{valued}
 use Rattle.std.specs.Prelude.{sum_by}
 use Rattle.eval_commit.proofs.round.evaluate.Goals as goal
 
+pub seed_store-requires : goal.seed_store-requires
+seed_store-requires g c = (c.args.circuit.now, c.requires.roots, c.requires.inputs, c.requires.store)
+
 pub loop-node-init : goal.loop-node-init
 loop-node-init g c = record {
-  belongs = c.seed_store.ensures.store;
+  belongs = record {
+    nets = c.seed_store.ensures.nets ∙ c.requires.store.nets;
+    cells = ap widths c.seed_store.ensures.cells ∙ c.requires.store.cells;
+    regs = ap widths c.seed_store.ensures.regs ∙ c.requires.store.regs;
+    reads = ap (map widths) c.seed_store.ensures.reads ∙ c.requires.store.reads;
+  };
   regs = c.seed_store.ensures.regs;
   reads = c.seed_store.ensures.reads;
   rooms_same = refl;

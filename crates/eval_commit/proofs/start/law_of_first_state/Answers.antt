@@ -1,4 +1,4 @@
-use Rattle.eval_commit.proofs.Starting.{first_blank, first_holds, first_inputs, first_rows}
+use Rattle.eval_commit.proofs.Starting.{first_blank, first_holds, first_rows}
 use Rattle.eval_commit.proofs.start.law_of_first_state.Goals as goal
 
 pub returns-clause-holds : goal.returns-clause-holds
@@ -9,6 +9,3 @@ returns-clause-rows c = first_rows c.law_of_memories.ensures.start
 
 pub returns-clause-blank : goal.returns-clause-blank
 returns-clause-blank c = first_blank
-
-pub returns-clause-inputs : goal.returns-clause-inputs
-returns-clause-inputs c = first_inputs

@@ -8,4 +8,4 @@ first_nets-requires-clause-rounds c = c.in_ok-rounds.ensures.rounds c.args.plan.
 
 pub returns-clause-standing : goal.returns-clause-standing
 returns-clause-standing c =
-    start_is c.args.circuit.now c.first_nets.new.self (state_of c.in_ok-rounds.rounds) c.as_slice.result.now c.first_nets.ensures.state c.in_ok-rounds.ensures.state c.first_nets.ensures.nets (c.as_slice.ensures ∙ c.in_ok-inputs.ensures)
+    start_is c.args.circuit.now c.first_nets.new.self (state_of c.in_ok-rounds.rounds) c.as_slice.result.now c.first_nets.ensures.state c.in_ok-rounds.ensures.state c.first_nets.ensures.nets (c.as_slice.ensures ∙ c.in_ok-inputs.ensures.zero)
