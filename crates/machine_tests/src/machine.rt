@@ -54,14 +54,22 @@ fn nets_take_what_drives_them(rt: HostRuntime) -> Result<(), Fail> {
 }
 
 #[test]
-fn registers_take_values_at_edges(rt: HostRuntime) -> Result<(), Fail> {
-    registers::check_first_edge(&rt, rt.alloc())?;
-    registers::check_chain(&rt, rt.alloc())?;
+fn a_clock_that_is_1_at_the_first_sample_has_its_edge_there(rt: HostRuntime) -> Result<(), Fail> {
+    registers::check_first_edge(&rt, rt.alloc())
+}
+
+#[test]
+fn of_two_chained_registers_the_second_takes_the_old_value(rt: HostRuntime) -> Result<(), Fail> {
+    registers::check_chain(&rt, rt.alloc())
+}
+
+#[test]
+fn behind_a_clock_of_a_register_a_value_comes_a_round_later(rt: HostRuntime) -> Result<(), Fail> {
     registers::check_derived_clock(&rt, rt.alloc())
 }
 
 #[test]
-fn after_a_sample_that_does_not_settle_none_does(rt: HostRuntime) -> Result<(), Fail> {
+fn a_latch_that_takes_its_own_inverse_does_not_settle(rt: HostRuntime) -> Result<(), Fail> {
     registers::check_restless(&rt, rt.alloc())
 }
 
@@ -71,9 +79,17 @@ fn clears_resets_and_enables_have_their_order(rt: HostRuntime) -> Result<(), Fai
 }
 
 #[test]
-fn rows_are_read_and_written_in_a_round(rt: HostRuntime) -> Result<(), Fail> {
-    memories::check_seen(&rt, rt.alloc())?;
-    memories::check_written(&rt, rt.alloc())?;
+fn a_read_port_sees_a_write_at_its_edge_or_the_old_row(rt: HostRuntime) -> Result<(), Fail> {
+    memories::check_seen(&rt, rt.alloc())
+}
+
+#[test]
+fn a_row_has_what_was_written(rt: HostRuntime) -> Result<(), Fail> {
+    memories::check_written(&rt, rt.alloc())
+}
+
+#[test]
+fn of_two_ports_that_write_one_row_the_last_word_stays(rt: HostRuntime) -> Result<(), Fail> {
     memories::check_last_word(&rt, rt.alloc())
 }
 
