@@ -178,8 +178,8 @@ impl Rounds {
         ensures steps { steps.new ≡ steps.old + length circuit.now.cells }
     {
         self.value_nets(circuit, plan, inputs, steps);
-        next_fired(circuit, &self.before, &self.now, &mut self.fired);
         let changed = self.next_state(circuit);
+        next_fired(circuit, &self.before, &self.now, &mut self.fired);
         mem::swap(&mut self.before, &mut self.now);
         changed
     }

@@ -4,17 +4,9 @@ use Rattle.eval_commit.proofs.Firing.{fired_length}
 use Rattle.eval_commit.proofs.Standing.{flags_put, stores_swapped}
 use Rattle.eval_commit.proofs.step.Rounds.round.Goals as goal
 
-pub next_state-changed-requires-clause-rounds : goal.next_state-changed-requires-clause-rounds
-next_state-changed-requires-clause-rounds g c =
-    let r = c.value_nets.new.self in (
-      c.args.plan.now,
-      flags_put c.args.circuit.now c.args.plan.now r c.next_fired.new.fired c.value_nets.ensures.rounds
-          (ap (length {A = Bool}) c.next_fired.ensures ∙ fired_length c.args.circuit.now.diags r.fired (round_of r.before r.now) c.value_nets.ensures.rounds.fired),
-    )
-
 pub returns-clause-rounds : goal.returns-clause-rounds
 returns-clause-rounds g c =
-    let r = c.value_nets.new.self in
-    let flags = flags_put c.args.circuit.now c.args.plan.now r c.next_fired.new.fired c.value_nets.ensures.rounds
-    (ap (length {A = Bool}) c.next_fired.ensures ∙ fired_length c.args.circuit.now.diags r.fired (round_of r.before r.now) c.value_nets.ensures.rounds.fired) in
-    stores_swapped c.args.circuit.now c.args.plan.now c.next_state-changed.new.self c.swap.new.x c.swap.new.y (c.next_state-changed.ensures.rounds c.args.plan.now flags) c.swap.ensures.x_after c.swap.ensures.y_after
+    let r = c.next_state-changed.new.self in
+    let is = c.next_state-changed.ensures.rounds c.args.plan.now c.value_nets.ensures.rounds in
+    let long = ap (length {A = Bool}) c.next_fired.ensures ∙ fired_length c.args.circuit.now.diags r.fired (round_of r.before r.now) is.fired in
+    stores_swapped c.args.circuit.now c.args.plan.now (record r { fired = c.next_fired.new.fired }) c.swap.new.x c.swap.new.y (flags_put c.args.circuit.now c.args.plan.now r c.next_fired.new.fired is long) c.swap.ensures.x_after c.swap.ensures.y_after
