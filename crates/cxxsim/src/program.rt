@@ -148,8 +148,8 @@ fn call<S: Shelf, I: Source, O: Sink, G: Sink>(
 }
 
 /// Does what a command on two files asks for, over the files of a shelf, the input, the output and the log,
-/// and answers the status of `cxxsim`; 2 does not come. No top module and no recording can be named yet. The design's file is read first, then that of the
-/// stimulus, then the session begins; the first cause decides.
+/// and answers the status of `cxxsim`; 2 does not come. No top module and no recording can be named yet. The
+/// design's file is read first, then that of the stimulus, then the session begins; the first cause decides.
 pub fn solo<S: Shelf, I: Source, O: Sink, G: Sink>(
     alloc: Global,
     command: &Command,
