@@ -7,7 +7,7 @@ use Rattle.std.proofs.lemmas.Nat.{pow_pos}
 use Rattle.sim_base.specs.BitValue.{BitValue, bit_value}
 use Rattle.circuit.specs.Signal.{Digits, sig_number}
 use Rattle.circuit.specs.declared.netlist.Piece.{Piece}
-use Rattle.circuit.specs.Output.{modulo, formula, inputs_of, output, operand, left, right, first}
+use Rattle.circuit.specs.Output.{modulo, formula, cell_inputs, output, operand, left, right, first}
 use Rattle.circuit.specs.declared.cell.Cell.{Cell}
 use Rattle.circuit.specs.declared.cell.Op.{Op}
 use Rattle.circuit.specs.declared.cell.Op.TheVariants as op
@@ -18,8 +18,8 @@ use Rattle.cell_wide.specs.declared.words.Bitwise.{Bitwise}
 use Rattle.cell_wide.specs.declared.words.Bitwise.TheVariants as by
 use Rattle.signal_words.proofs.Modulo.{modulo_below, modulo_difference}
 
-pub output_of : (digits : Digits) (c : Cell) (o : Op) → c.op ≡ o → modulo c.width (formula o (inputs_of digits c)) ≡ output digits c
-output_of digits c o is = ap (λ x. modulo c.width (formula x (inputs_of digits c))) (sym is)
+pub output_of : (digits : Digits) (c : Cell) (o : Op) → c.op ≡ o → modulo c.width (formula o (cell_inputs digits c)) ≡ output digits c
+output_of digits c o is = ap (λ x. modulo c.width (formula x (cell_inputs digits c))) (sym is)
 
 -- the complement of the lowest digits of a whole number
 pub inverse_modulo : (w : ℕ) (z : ℤ) → (2 ^ w - 1) - modulo w z ≡ modulo w (pos 0 -ℤ pos 1 -ℤ z)
@@ -40,28 +40,28 @@ pub combined_same : (op other : Bitwise) (a b x y : ℕ) → other ≡ op → a 
 combined_same op other a b x y e f g = ap (λ o. combined o a b) e ∙ ap (λ z. combined op z b) f ∙ ap (combined op x) g
 
 -- two operands digit by digit
-pub pair_output : (digits : Digits) (c : Cell) (o : Op) (op other : Bitwise) (w x y : ℕ) → c.op ≡ o → other ≡ op → w ≡ c.width → x ≡ modulo w (left (inputs_of digits c)) → y ≡ modulo w (right (inputs_of digits c))
-    → formula o (inputs_of digits c) ≡ pos (combined op (modulo c.width (left (inputs_of digits c))) (modulo c.width (right (inputs_of digits c)))) → combined other x y ≡ output digits c
+pub pair_output : (digits : Digits) (c : Cell) (o : Op) (op other : Bitwise) (w x y : ℕ) → c.op ≡ o → other ≡ op → w ≡ c.width → x ≡ modulo w (left (cell_inputs digits c)) → y ≡ modulo w (right (cell_inputs digits c))
+    → formula o (cell_inputs digits c) ≡ pos (combined op (modulo c.width (left (cell_inputs digits c))) (modulo c.width (right (cell_inputs digits c)))) → combined other x y ≡ output digits c
 pair_output digits c o op other w x y is same width a b f =
-    let l = left (inputs_of digits c) in
-    let r = right (inputs_of digits c) in
+    let l = left (cell_inputs digits c) in
+    let r = right (cell_inputs digits c) in
     combined_same op other x y (modulo w l) (modulo w r) same a b ∙ ap (λ k. combined op (modulo k l) (modulo k r)) width ∙ sym (combined_modulo op c.width l r)
     ∙ sym (ap (modulo c.width) f) ∙ output_of digits c o is
 
 pub xnor_is : (o : Op) → is_bitwise o ≡ true → (o ≡ op.And → ⊥) → (o ≡ op.Or → ⊥) → (o ≡ op.Xor → ⊥) → o ≡ op.Xnor
 xnor_is o e a b d = grind arith
 
-pub xnor_output : (digits : Digits) (c : Cell) (other : Bitwise) (w x y : ℕ) → c.op ≡ op.Xnor → other ≡ by.Xor → w ≡ c.width → x ≡ modulo w (left (inputs_of digits c)) → y ≡ modulo w (right (inputs_of digits c))
+pub xnor_output : (digits : Digits) (c : Cell) (other : Bitwise) (w x y : ℕ) → c.op ≡ op.Xnor → other ≡ by.Xor → w ≡ c.width → x ≡ modulo w (left (cell_inputs digits c)) → y ≡ modulo w (right (cell_inputs digits c))
     → (2 ^ w - 1) - combined other x y ≡ output digits c
 xnor_output digits c other w x y is same width a b =
-    let l = left (inputs_of digits c) in
-    let r = right (inputs_of digits c) in
+    let l = left (cell_inputs digits c) in
+    let r = right (cell_inputs digits c) in
     ap (λ z. (2 ^ w - 1) - z) (combined_same by.Xor other x y (modulo w l) (modulo w r) same a b) ∙ ap (λ k. (2 ^ k - 1) - combined by.Xor (modulo k l) (modulo k r)) width
     ∙ ap (λ z. (2 ^ c.width - 1) - z) (sym (combined_modulo by.Xor c.width l r)) ∙ inverse_modulo c.width (pos (combined by.Xor (modulo c.width l) (modulo c.width r))) ∙ output_of digits c op.Xnor is
 
-pub not_output : (digits : Digits) (c : Cell) (w x : ℕ) → c.op ≡ op.Not → w ≡ c.width → x ≡ modulo w (first (inputs_of digits c)) → (2 ^ w - 1) - x ≡ output digits c
+pub not_output : (digits : Digits) (c : Cell) (w x : ℕ) → c.op ≡ op.Not → w ≡ c.width → x ≡ modulo w (first (cell_inputs digits c)) → (2 ^ w - 1) - x ≡ output digits c
 not_output digits c w x is width a =
-    ap (λ z. (2 ^ w - 1) - z) a ∙ ap (λ k. (2 ^ k - 1) - modulo k (first (inputs_of digits c))) width ∙ inverse_modulo c.width (first (inputs_of digits c)) ∙ output_of digits c op.Not is
+    ap (λ z. (2 ^ w - 1) - z) a ∙ ap (λ k. (2 ^ k - 1) - modulo k (first (cell_inputs digits c))) width ∙ inverse_modulo c.width (first (cell_inputs digits c)) ∙ output_of digits c op.Not is
 
 -- a combination of two operands is below
 pub combined_word : (op : Bitwise) (w x y : ℕ) (a b : ℤ) → x ≡ modulo w a → y ≡ modulo w b → combined op x y < 2 ^ w

@@ -7,7 +7,7 @@ use Rattle.std.proofs.lemmas.Nat.Bits.{bit_at-lt, bit_at_and, bit_at_xor}
 use Rattle.std.specs.Int.{bit_at}
 use Rattle.std.specs.Prelude.{◌==◌}
 use Rattle.circuit.specs.Signal.{Digits, gathered, sig_number, sig_width}
-use Rattle.circuit.specs.Output.{chosen_bit, equal_bit, inputs_of, lowest_from, output}
+use Rattle.circuit.specs.Output.{chosen_bit, equal_bit, cell_inputs, lowest_from, output}
 use Rattle.circuit.specs.Valid.{widths_fit, widths_of}
 use Rattle.circuit.specs.declared.cell.Cell.{Cell}
 use Rattle.circuit.specs.declared.cell.Op.TheVariants as op
@@ -122,15 +122,15 @@ bwmux_output digits c w a b s is width ea eb es =
     let whole : bit_xor (a % 2 ^ w) (bit_and (bit_xor (a % 2 ^ w) (b % 2 ^ w)) (s % 2 ^ w)) ≡ x % 2 ^ w =
     sym (xor_mod a (bit_and (bit_xor a b) s) w ∙ ap (bit_xor (a % 2 ^ w)) (and_mod (bit_xor a b) s w ∙ ap (λ y. bit_and y (s % 2 ^ w)) (xor_mod a b w))) in
     let lt : x % 2 ^ w < 2 ^ w = mod_below x (2 ^ w) (pow_pos w) in
-    let g : gathered (chosen_bit (inputs_of digits c)) w ≡ x % 2 ^ w =
-    gathered_same w (chosen_bit (inputs_of digits c)) (λ j. bit_at (x % 2 ^ w) (0 + j)) (λ j l.
+    let g : gathered (chosen_bit (cell_inputs digits c)) w ≡ x % 2 ^ w =
+    gathered_same w (chosen_bit (cell_inputs digits c)) (λ j. bit_at (x % 2 ^ w) (0 + j)) (λ j l.
     ap (λ n. cond (bit_at n j == 1) (bit_at (sig_number digits c.b) j) (bit_at (sig_number digits c.a) j)) (sym es)
     ∙ ap (λ n. cond (bit_at s j == 1) (bit_at n j) (bit_at (sig_number digits c.a) j)) (sym eb) ∙ ap (λ n. cond (bit_at s j == 1) (bit_at b j) (bit_at n j)) (sym ea)
     ∙ chosen_digit (bit_at a j) (bit_at b j) (bit_at s j) (bit_at-lt a j) (bit_at-lt b j) (bit_at-lt s j)
     ∙ sym ((let z : 0 + j ≡ j = omega arith in ap (bit_at (x % 2 ^ w)) z) ∙ bit_at_mod x w j l ∙ bit_at_xor a (bit_and (bit_xor a b) s) j
     ∙ ap (λ y. (bit_at a j + y) % 2) (bit_at_and (bit_xor a b) s j ∙ ap (λ y. min y (bit_at s j)) (bit_at_xor a b j))))
     ∙ number_gathered (x % 2 ^ w) w lt in
-    whole ∙ sym (mod-eq_of_lt lt) ∙ ap (λ y. y % 2 ^ w) (sym g) ∙ ap (λ k. gathered (chosen_bit (inputs_of digits c)) k % 2 ^ k) width ∙ output_of digits c op.Bwmux is
+    whole ∙ sym (mod-eq_of_lt lt) ∙ ap (λ y. y % 2 ^ w) (sym g) ∙ ap (λ k. gathered (chosen_bit (cell_inputs digits c)) k % 2 ^ k) width ∙ output_of digits c op.Bwmux is
 
 gathered_other : (w : ℕ) (d e : ℕ → ℕ) → ((j : ℕ) → d j + e j ≡ 1) → gathered d w + gathered e w ≡ 2 ^ w - 1
 unfolding gathered
@@ -157,7 +157,7 @@ equal_digit (suc (suc a)) b l k = absurd (omega (arith, l))
 
 pub bweqx_output : (digits : Digits) (c : Cell) (w a b : ℕ) → c.op ≡ op.Bweqx → w ≡ c.width → a ≡ sig_number digits c.a → b ≡ sig_number digits c.b → (2 ^ w - 1) - bit_xor (a % 2 ^ w) (b % 2 ^ w) ≡ output digits c
 bweqx_output digits c w a b is width ea eb =
-    let i = inputs_of digits c in
+    let i = cell_inputs digits c in
     let x = bit_xor (sig_number digits c.a) (sig_number digits c.b) in
     let lt : x % 2 ^ w < 2 ^ w = mod_below x (2 ^ w) (pow_pos w) in
     let whole : bit_xor (a % 2 ^ w) (b % 2 ^ w) ≡ x % 2 ^ w =

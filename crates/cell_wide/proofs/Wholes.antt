@@ -4,7 +4,7 @@ use Rattle.std.specs.Prelude.{◌==◌, int_le}
 use Rattle.std.proofs.Math.Nat.{mod-eq_of_lt}
 use Rattle.sim_base.specs.BitValue.{BitValue}
 use Rattle.circuit.specs.Signal.{Digits, sig_number, sig_value, sig_width}
-use Rattle.circuit.specs.Output.{modulo, inputs_of, is_equal, output, operand, left, right, first}
+use Rattle.circuit.specs.Output.{modulo, cell_inputs, is_equal, output, operand, left, right, first}
 use Rattle.circuit.specs.declared.netlist.Piece.{Piece}
 use Rattle.circuit.specs.declared.cell.Cell.{Cell}
 use Rattle.circuit.specs.declared.cell.Op.{Op}
@@ -21,21 +21,21 @@ pub whole_operand : (digits : Digits) (flag : Bool) (sig port : List Piece) (v :
 whole_operand digits flag sig port v w is below width same =
     sym (ap (λ k. v.number % 2 ^ k) (sym width) ∙ mod-eq_of_lt below) ∙ piece_operand digits flag sig port v w is below (omega (arith, width)) same
 
-pub bitwise_digits : (digits : Digits) (c : Cell) (o : Op) (w x y : ℕ) → c.op ≡ o → is_bitwise o ≡ true → w ≡ c.width → x ≡ modulo w (left (inputs_of digits c)) → y ≡ modulo w (right (inputs_of digits c)) → digitwise o w x y ≡ output digits c
+pub bitwise_digits : (digits : Digits) (c : Cell) (o : Op) (w x y : ℕ) → c.op ≡ o → is_bitwise o ≡ true → w ≡ c.width → x ≡ modulo w (left (cell_inputs digits c)) → y ≡ modulo w (right (cell_inputs digits c)) → digitwise o w x y ≡ output digits c
 bitwise_digits digits c op.And w x y is kind width a b = pair_output digits c op.And by.And by.And w x y is refl width a b refl
 bitwise_digits digits c op.Or w x y is kind width a b = pair_output digits c op.Or by.Or by.Or w x y is refl width a b refl
 bitwise_digits digits c op.Xor w x y is kind width a b = pair_output digits c op.Xor by.Xor by.Xor w x y is refl width a b refl
 bitwise_digits digits c op.Xnor w x y is kind width a b = xnor_output digits c by.Xor w x y is refl width a b
 bitwise_digits digits c _ w x y is kind width a b = absurd (cc kind)
 
-pub unary_digits : (digits : Digits) (c : Cell) (o : Op) (w x y : ℕ) → c.op ≡ o → is_unary o ≡ true → w ≡ c.width → x ≡ modulo w (first (inputs_of digits c)) → digitwise o w x y ≡ output digits c
+pub unary_digits : (digits : Digits) (c : Cell) (o : Op) (w x y : ℕ) → c.op ≡ o → is_unary o ≡ true → w ≡ c.width → x ≡ modulo w (first (cell_inputs digits c)) → digitwise o w x y ≡ output digits c
 unary_digits digits c op.Not w x y is kind width a = not_output digits c w x is width a
-unary_digits digits c op.Pos w x y is kind width a = a ∙ ap (λ k. modulo k (first (inputs_of digits c))) width ∙ output_of digits c op.Pos is
+unary_digits digits c op.Pos w x y is kind width a = a ∙ ap (λ k. modulo k (first (cell_inputs digits c))) width ∙ output_of digits c op.Pos is
 unary_digits digits c _ w x y is kind width a = absurd (cc kind)
 
 -- operands of one width are equal where their numbers are
 pub values_equal : (digits : Digits) (c : Cell) (one other : List Piece) (a b : BitValue) (equal : Bool) → a ≡ sig_value digits one → b ≡ sig_value digits other → one ≡ c.a → other ≡ c.b → a.number < 2 ^ a.width → b.number < 2 ^ b.width → a.width ≡ b.width
-    → equal ≡ (a.number == b.number) → is_equal (inputs_of digits c) ≡ equal
+    → equal ≡ (a.number == b.number) → is_equal (cell_inputs digits c) ≡ equal
 values_equal digits c one other a b equal is i f g la lb width e =
     let flag = c.a_signed && c.b_signed in
     let l : a ≡ sig_value digits c.a = is ∙ ap (sig_value digits) f in

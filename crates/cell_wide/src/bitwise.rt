@@ -1,7 +1,7 @@
 //! Cells that work digit by digit.
 ghost use Rattle.std.specs.Prelude.{◌≡◌, ℕ, ◌<◌, ◌≤◌, ◌^◌, true, IfSome};
 ghost use Rattle.sim_base.specs.BitValue.{bit_value};
-ghost use Rattle.circuit.specs.Output.{first, inputs_of, left, modulo, output, right};
+ghost use Rattle.circuit.specs.Output.{first, cell_inputs, left, modulo, output, right};
 ghost use Rattle.circuit.specs.Signal.{Digits, sig_value};
 ghost use Rattle.signal_words.specs.Values.{digits_in, IsSignalOf, IsWordOf};
 ghost use Rattle.cell_wide.specs.Kinds.{IsReady, is_bitwise, is_unary};
@@ -65,7 +65,7 @@ fn unary_wide<'a>(cell: &'a Cell, nets: &'a [Bits], into: &mut Bits) -> bool
 fn unary_by<A: Words>(cell: &Cell, digits: A, into: &mut Bits) -> bool
     requires kind { is_unary cell.now.op ≡ true }
     requires into { into.old.width ≡ cell.now.width }
-    ensures { (nets : Digits) → A.low digits into.old.width ≡ modulo into.old.width (first (inputs_of nets cell.now)) → IsWritten (output nets cell.now) into.old into.new result }
+    ensures { (nets : Digits) → A.low digits into.old.width ≡ modulo into.old.width (first (cell_inputs nets cell.now)) → IsWritten (output nets cell.now) into.old into.new result }
 {
     let mut digits = digits;
     match cell.op {
@@ -78,8 +78,8 @@ fn unary_by<A: Words>(cell: &Cell, digits: A, into: &mut Bits) -> bool
 pub fn operands<'a>(cell: &'a Cell, nets: &'a [Bits]) -> (Operand<'a>, Operand<'a>)
     requires a { IsSignalOf nets.now cell.now.a }
     requires b { IsSignalOf nets.now cell.now.b }
-    ensures one { (w : ℕ) → low_of_operand result.0.low result.0.left result.0.high.ones w ≡ modulo w (left (inputs_of (digits_in nets.now) cell.now)) }
-    ensures other { (w : ℕ) → low_of_operand result.1.low result.1.left result.1.high.ones w ≡ modulo w (right (inputs_of (digits_in nets.now) cell.now)) }
+    ensures one { (w : ℕ) → low_of_operand result.0.low result.0.left result.0.high.ones w ≡ modulo w (left (cell_inputs (digits_in nets.now) cell.now)) }
+    ensures other { (w : ℕ) → low_of_operand result.1.low result.1.left result.1.high.ones w ≡ modulo w (right (cell_inputs (digits_in nets.now) cell.now)) }
 {
     let signed = are_signed(cell);
     (
@@ -165,7 +165,7 @@ fn bitwise_of_pieces<'a>(cell: &'a Cell, nets: &'a [Bits], into: &mut Bits) -> b
 fn bitwise_by<A: Words, B: Words>(cell: &Cell, one: A, other: B, into: &mut Bits) -> bool
     requires kind { is_bitwise cell.now.op ≡ true }
     requires into { into.old.width ≡ cell.now.width }
-    ensures { (nets : Digits) → A.low one into.old.width ≡ modulo into.old.width (left (inputs_of nets cell.now)) → B.low other into.old.width ≡ modulo into.old.width (right (inputs_of nets cell.now))
+    ensures { (nets : Digits) → A.low one into.old.width ≡ modulo into.old.width (left (cell_inputs nets cell.now)) → B.low other into.old.width ≡ modulo into.old.width (right (cell_inputs nets cell.now))
         → IsWritten (output nets cell.now) into.old into.new result }
 {
     match cell.op {

@@ -1,6 +1,6 @@
 //! Cells that give a truth value.
 ghost use Rattle.std.specs.Prelude.{◌≡◌, ◌==◌, ◌&&◌, ◌%◌, ◌^◌, ◌-◌, ◌<◌, ◌≤◌, int_le, true, IfSome};
-ghost use Rattle.circuit.specs.Output.{Inputs, formula, inputs_of, is_equal, modulo, ones, operand, output, truth};
+ghost use Rattle.circuit.specs.Output.{CellInputs, formula, cell_inputs, is_equal, modulo, ones, operand, output, truth};
 ghost use Rattle.circuit.specs.Signal.{sig_number, sig_value, sig_width};
 ghost use Rattle.signal_words.specs.Values.{digits_in, IsSignalOf, IsWordOf};
 ghost use Rattle.cell_wide.specs.Kinds.{IsReady, is_equality, is_logic, is_reduction, is_truth};
@@ -82,7 +82,7 @@ fn reduced(op: Op, sig: &[Piece], nets: &[Bits], a: Option<SigWord>) -> bool
     requires kind { is_reduction op ≡ true }
     requires signal { IsSignalOf nets.now sig.now }
     requires a { IfSome a (λ word. IsWordOf nets.now sig.now word.width word.number) }
-    ensures { (i : Inputs) → i.a ≡ sig_value (digits_in nets.now) sig.now → formula op i ≡ truth result }
+    ensures { (i : CellInputs) → i.a ≡ sig_value (digits_in nets.now) sig.now → formula op i ≡ truth result }
 {
     match op {
         Op::ReduceAnd => are_ones(sig, nets, a),
@@ -99,7 +99,7 @@ fn logic(cell: &Cell, nets: &[Bits], a: Option<SigWord>, b: Option<SigWord>) -> 
     requires b_signal { IsSignalOf nets.now cell.now.b }
     requires a { IfSome a (λ word. IsWordOf nets.now cell.now.a word.width word.number) }
     requires b { IfSome b (λ word. IsWordOf nets.now cell.now.b word.width word.number) }
-    ensures { formula cell.now.op (inputs_of (digits_in nets.now) cell.now) ≡ truth result }
+    ensures { formula cell.now.op (cell_inputs (digits_in nets.now) cell.now) ≡ truth result }
 {
     let (one, other) = (cell.a.as_slice(), cell.b.as_slice());
     match cell.op {
@@ -129,7 +129,7 @@ fn are_equal(cell: &Cell, nets: &[Bits], a: Option<SigWord>, b: Option<SigWord>)
     requires b_signal { IsSignalOf nets.now cell.now.b }
     requires a { IfSome a (λ word. IsWordOf nets.now cell.now.a word.width word.number) }
     requires b { IfSome b (λ word. IsWordOf nets.now cell.now.b word.width word.number) }
-    ensures { result ≡ is_equal (inputs_of (digits_in nets.now) cell.now) }
+    ensures { result ≡ is_equal (cell_inputs (digits_in nets.now) cell.now) }
 {
     match (a, b) {
         (Some(a), Some(b)) => are_equal_words(a, b, are_signed(cell)),
@@ -142,7 +142,7 @@ fn are_equal(cell: &Cell, nets: &[Bits], a: Option<SigWord>, b: Option<SigWord>)
 fn are_equal_wide(cell: &Cell, nets: &[Bits]) -> bool
     requires a { IsSignalOf nets.now cell.now.a }
     requires b { IsSignalOf nets.now cell.now.b }
-    ensures { result ≡ is_equal (inputs_of (digits_in nets.now) cell.now) }
+    ensures { result ≡ is_equal (cell_inputs (digits_in nets.now) cell.now) }
 {
     let a = cell.a.as_slice();
     let b = cell.b.as_slice();
@@ -158,7 +158,7 @@ fn equality(cell: &Cell, nets: &[Bits], a: Option<SigWord>, b: Option<SigWord>) 
     requires b_signal { IsSignalOf nets.now cell.now.b }
     requires a { IfSome a (λ word. IsWordOf nets.now cell.now.a word.width word.number) }
     requires b { IfSome b (λ word. IsWordOf nets.now cell.now.b word.width word.number) }
-    ensures { formula cell.now.op (inputs_of (digits_in nets.now) cell.now) ≡ truth result }
+    ensures { formula cell.now.op (cell_inputs (digits_in nets.now) cell.now) ≡ truth result }
 {
     let equal = are_equal(cell, nets, a, b);
     match cell.op {
@@ -174,7 +174,7 @@ fn truth_of(cell: &Cell, nets: &[Bits], a: Option<SigWord>, b: Option<SigWord>) 
     requires b_signal { IsSignalOf nets.now cell.now.b }
     requires a { IfSome a (λ word. IsWordOf nets.now cell.now.a word.width word.number) }
     requires b { IfSome b (λ word. IsWordOf nets.now cell.now.b word.width word.number) }
-    ensures { formula cell.now.op (inputs_of (digits_in nets.now) cell.now) ≡ truth result }
+    ensures { formula cell.now.op (cell_inputs (digits_in nets.now) cell.now) ≡ truth result }
 {
     match cell.op {
         Op::Eq | Op::Ne | Op::Eqx | Op::Nex => equality(cell, nets, a, b),

@@ -1,6 +1,6 @@
 //! Cells whose operands are whole values: constants and whole nets, of the widths that need no cut and no sign.
 ghost use Rattle.std.specs.Prelude.{◌≡◌, true};
-ghost use Rattle.circuit.specs.Output.{Inputs, formula, is_equal, output, truth};
+ghost use Rattle.circuit.specs.Output.{CellInputs, formula, is_equal, output, truth};
 ghost use Rattle.signal_words.specs.Values.{digits_in};
 ghost use Rattle.cell_wide.specs.Kinds.{IsReady, is_bitwise, is_equality, is_unary};
 ghost use Rattle.signal_words.specs.Written.{IsWritten};
@@ -49,7 +49,7 @@ pub fn bitwise_values(cell: &Cell, nets: &[Bits], into: &mut Bits) -> bool
 #[inline(always)]
 fn is_told(op: Op, equal: bool) -> bool
     requires { is_equality op ≡ true }
-    ensures { (i : Inputs) → is_equal i ≡ equal → formula op i ≡ truth result }
+    ensures { (i : CellInputs) → is_equal i ≡ equal → formula op i ≡ truth result }
 {
     match op {
         Op::Eq | Op::Eqx => equal,

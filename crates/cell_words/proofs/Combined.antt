@@ -5,7 +5,7 @@ use Rattle.std.proofs.lemmas.Int.{ints}
 use Rattle.std.specs.Prelude.{ℤ, pos, ◌+ℤ◌, ◌-ℤ◌, ◌*ℤ◌}
 use borrow.Author.Differences.{up, down}
 use Rattle.sim_base.specs.BitValue.{BitValue}
-use Rattle.circuit.specs.Output.{modulo, operand, formula, left, right, Inputs}
+use Rattle.circuit.specs.Output.{modulo, operand, formula, left, right, CellInputs}
 use Rattle.circuit.specs.declared.cell.Op.{Op}
 use Rattle.circuit.specs.declared.cell.Op.TheVariants as op
 use Rattle.cell_words.specs.Kinds.{is_modular}
@@ -37,13 +37,13 @@ sub_is w y z a b le e f =
 mul_is : (w : ℕ) (y z : ℤ) (a b : ℕ) → w ≤ 64 → modulo w y ≡ a → modulo w z ≡ b → a * b % 2 ^ 64 % 2 ^ w ≡ modulo w (y *ℤ z)
 mul_is w y z a b le e f = modulo_lower w 64 (pos (a * b)) le ∙ modulo_product w y z a b (sym e) (sym f)
 
-pub sum_digits : (o : Op) (i : Inputs) (w a b : ℕ) → o ≡ op.Add → w ≤ 64 → modulo w (left i) ≡ a → modulo w (right i) ≡ b → (a + b) % 2 ^ 64 % 2 ^ w ≡ modulo w (formula o i)
+pub sum_digits : (o : Op) (i : CellInputs) (w a b : ℕ) → o ≡ op.Add → w ≤ 64 → modulo w (left i) ≡ a → modulo w (right i) ≡ b → (a + b) % 2 ^ 64 % 2 ^ w ≡ modulo w (formula o i)
 sum_digits o i w a b is le e f = add_is w (left i) (right i) a b le e f ∙ ap (λ p. modulo w (formula p i)) (sym is)
 
-pub difference_digits : (o : Op) (i : Inputs) (w a b : ℕ) → o ≡ op.Sub → w ≤ 64 → modulo w (left i) ≡ a → modulo w (right i) ≡ b → (a + (2 ^ 64 - b)) % 2 ^ 64 % 2 ^ w ≡ modulo w (formula o i)
+pub difference_digits : (o : Op) (i : CellInputs) (w a b : ℕ) → o ≡ op.Sub → w ≤ 64 → modulo w (left i) ≡ a → modulo w (right i) ≡ b → (a + (2 ^ 64 - b)) % 2 ^ 64 % 2 ^ w ≡ modulo w (formula o i)
 difference_digits o i w a b is le e f = sub_is w (left i) (right i) a b le e f ∙ ap (λ p. modulo w (formula p i)) (sym is)
 
-pub product_digits : (o : Op) (i : Inputs) (w a b : ℕ) → is_modular o ≡ true → (o ≡ op.Add → ⊥) → (o ≡ op.Sub → ⊥) → w ≤ 64 → modulo w (left i) ≡ a → modulo w (right i) ≡ b → a * b % 2 ^ 64 % 2 ^ w ≡ modulo w (formula o i)
+pub product_digits : (o : Op) (i : CellInputs) (w a b : ℕ) → is_modular o ≡ true → (o ≡ op.Add → ⊥) → (o ≡ op.Sub → ⊥) → w ≤ 64 → modulo w (left i) ≡ a → modulo w (right i) ≡ b → a * b % 2 ^ 64 % 2 ^ w ≡ modulo w (formula o i)
 product_digits op.Mul i w a b kind m n le e f = mul_is w (left i) (right i) a b le e f
 product_digits op.Add i w a b kind m n le e f = absurd (m refl)
 product_digits op.Sub i w a b kind m n le e f = absurd (n refl)

@@ -6,7 +6,7 @@ use Rattle.std.proofs.lemmas.Nat.{pow_pos, pow-add, mod_below, div-add-mod', sam
 use Rattle.std.proofs.Math.Nat.{pow-le-pow_right, mod-eq_of_lt, div-eq_of_lt}
 use Rattle.std.specs.Prelude.{ℤ, pos, ◌-ℤ◌, int_lt, int_le, nat_lt, ◌==◌}
 use Rattle.sim_base.specs.BitValue.{BitValue}
-use Rattle.circuit.specs.Output.{operand, formula, left, right, truth, Inputs}
+use Rattle.circuit.specs.Output.{operand, formula, left, right, truth, CellInputs}
 use Rattle.circuit.specs.declared.cell.Op.{Op}
 use Rattle.circuit.specs.declared.cell.Op.TheVariants as op
 
@@ -60,10 +60,10 @@ signed_below signed w a b is some small la lb =
 not_below : (y z : ℤ) → int_le y z ≡ not (int_lt z y)
 not_below y z = grind (arith, ints)
 
-pub at_most_told : (o : Op) (i : Inputs) (y z : ℤ) (t : Bool) → o ≡ op.Le → left i ≡ y → right i ≡ z → t ≡ int_lt z y → formula o i ≡ truth (not t)
+pub at_most_told : (o : Op) (i : CellInputs) (y z : ℤ) (t : Bool) → o ≡ op.Le → left i ≡ y → right i ≡ z → t ≡ int_lt z y → formula o i ≡ truth (not t)
 at_most_told o i y z t is e f g = ap (λ p. formula p i) is ∙ ap (λ x. truth (int_le x (right i))) e ∙ ap (λ x. truth (int_le y x)) f ∙ ap truth (not_below y z) ∙ ap (λ b. truth (not b)) (sym g)
 
-pub at_least_told : (o : Op) (i : Inputs) (y z : ℤ) (t : Bool) → o ≡ op.Ge → left i ≡ y → right i ≡ z → t ≡ int_lt y z → formula o i ≡ truth (not t)
+pub at_least_told : (o : Op) (i : CellInputs) (y z : ℤ) (t : Bool) → o ≡ op.Ge → left i ≡ y → right i ≡ z → t ≡ int_lt y z → formula o i ≡ truth (not t)
 at_least_told o i y z t is e f g = ap (λ p. formula p i) is ∙ ap (λ x. truth (int_le (right i) x)) e ∙ ap (λ x. truth (int_le x y)) f ∙ ap truth (not_below z y) ∙ ap (λ b. truth (not b)) (sym g)
 
 pub truth_below : (w : ℕ) (t : Bool) → 0 < w → cond t 1 0 < 2 ^ w

@@ -2,7 +2,7 @@
 use Rattle.std.specs.Prelude.{◌≡◌, ℕ, ◌+◌, ◌-◌, ◌*◌, ◌/◌, ◌^◌, ◌<◌, min, ℤ, pos, int_lt, Bool, true, false, ◌&&◌, ◌==◌, if◌then◌else◌}
 use Rattle.std.specs.Int.{bit_at}
 use Rattle.sim_base.specs.BitValue.{BitValue}
-use Rattle.circuit.specs.Output.{Inputs, operand, first, widened, modulo}
+use Rattle.circuit.specs.Output.{CellInputs, operand, first, widened, modulo}
 use Rattle.circuit.specs.declared.cell.Op.{Op}
 use Rattle.circuit.specs.declared.cell.Op.TheVariants as op
 use Rattle.cell_words.specs.Wholes.{magnitude}
@@ -22,7 +22,7 @@ abbrev pub moved : Shift → BitValue → ℕ
 moved s a = extended s.ones a / 2 ^ s.right * 2 ^ s.left
 
 -- by how many places a shift cell moves digits to the right
-abbrev pub places : Op → Inputs → ℤ
+abbrev pub places : Op → CellInputs → ℤ
 places op.Shift i = operand i.b_signed i.b.width i.b.number
 places op.Shiftx i = operand i.b_signed i.b.width i.b.number
 places _ i = pos i.b.number
@@ -45,7 +45,7 @@ abbrev pub is_below_zero : Bool → ℕ → ℕ → Bool
 is_below_zero signed width number = signed && (bit_at number (width - 1) == 1)
 
 -- whether the first operand is below 0
-abbrev pub is_negative : Inputs → Bool
+abbrev pub is_negative : CellInputs → Bool
 is_negative i = is_below_zero i.a_signed i.a.width i.a.number
 
 -- the number with so many digits that are all 1, or all 0
@@ -53,20 +53,20 @@ abbrev pub all_ones : Bool → ℕ → ℕ
 all_ones ones width = if ones then 2 ^ width - 1 else 0
 
 -- the number whose digits a shift cell moves: the first operand with as many digits as can be seen in the output
-abbrev pub source : Op → Inputs → ℕ
+abbrev pub source : Op → CellInputs → ℕ
 source op.Sshr i = modulo (i.width + i.a.width) (first i)
 source op.Shiftx i = i.a.number
 source _ i = widened i
 
 -- what is known of the inputs of a shift cell: the widths, and whether the first operand is below 0
-pub record HasWidths (i : Inputs) (width a_width : ℕ) (negative : Bool) : Type 0 where
+pub record HasWidths (i : CellInputs) (width a_width : ℕ) (negative : Bool) : Type 0 where
   pub width_is : i.width ≡ width
   pub a_width_is : i.a.width ≡ a_width
   pub below : i.a.number < 2 ^ i.a.width
   pub negative_is : is_negative i ≡ negative
 
 -- neither operand of a shift cell is below 0: they are these numbers
-pub record IsPlain (i : Inputs) (number by : ℕ) : Type 0 where
+pub record IsPlain (i : CellInputs) (number by : ℕ) : Type 0 where
   pub number_is : i.a.number ≡ number
   pub below : i.a.number < 2 ^ i.a.width
   pub word : number < 2 ^ 64

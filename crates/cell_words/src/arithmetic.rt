@@ -2,7 +2,7 @@
 ghost use Rattle.std.specs.Prelude.{◌≡◌, ◌≢◌, ◌<◌, ◌≤◌, ◌%◌, ◌^◌, ℤ, pos, true, false};
 ghost use Rattle.sim_base.specs.BitValue.{bit_value};
 ghost use Rattle.circuit.specs.Signal.{Digits, sig_value};
-ghost use Rattle.circuit.specs.Output.{Inputs, modulo, formula, truth, output};
+ghost use Rattle.circuit.specs.Output.{CellInputs, modulo, formula, truth, output};
 ghost use Rattle.cell_words.specs.Kinds.{is_division, is_comparison, is_binary, is_arithmetic};
 ghost use Rattle.cell_words.specs.Operands.{HasOperands, ReadsPorts};
 
@@ -17,7 +17,7 @@ use signal_words::SigWord;
 #[inline(never)]
 fn divided(op: Op, a: &Whole, b: &Whole) -> u128
     requires { is_division op ≡ true }
-    ensures { (i : Inputs) → HasOperands i a.now b.now → result ≡ modulo 128 (formula op i) }
+    ensures { (i : CellInputs) → HasOperands i a.now b.now → result ≡ modulo 128 (formula op i) }
 {
     if b.is_zero() {
         return 0;
@@ -32,7 +32,7 @@ fn divided(op: Op, a: &Whole, b: &Whole) -> u128
 
 fn compared(op: Op, a: &Whole, b: &Whole) -> bool
     requires { is_comparison op ≡ true }
-    ensures { (i : Inputs) → HasOperands i a.now b.now → formula op i ≡ truth result }
+    ensures { (i : CellInputs) → HasOperands i a.now b.now → formula op i ≡ truth result }
 {
     match op {
         Op::Lt => a.is_below(b),
@@ -46,7 +46,7 @@ fn compared(op: Op, a: &Whole, b: &Whole) -> bool
 #[inline(always)]
 fn of_two(op: Op, a: &Whole, b: &Whole) -> u128
     requires { is_binary op ≡ true }
-    ensures { (i : Inputs) → HasOperands i a.now b.now → result ≡ modulo 128 (formula op i) }
+    ensures { (i : CellInputs) → HasOperands i a.now b.now → result ≡ modulo 128 (formula op i) }
 {
     match op {
         Op::Add => a.sum(b),
@@ -65,7 +65,7 @@ fn low_of(cell: &Cell, a: Port, b: Port) -> u128
     requires a_below { a.number < 2 ^ a.width }
     requires b_narrow { b.width ≤ 128 }
     requires b_below { b.number < 2 ^ b.width }
-    ensures { (i : Inputs) → ReadsPorts cell.now (bit_value a.width a.number) (bit_value b.width b.number) i → result ≡ modulo 128 (formula cell.now.op i) }
+    ensures { (i : CellInputs) → ReadsPorts cell.now (bit_value a.width a.number) (bit_value b.width b.number) i → result ≡ modulo 128 (formula cell.now.op i) }
 {
     if cell.op == Op::Neg {
         return Whole::operand(cell.a_signed, a.width, a.number).negated();
@@ -83,7 +83,7 @@ fn low_of_words(cell: &Cell, a: SigWord, b: SigWord) -> u128
     requires a_below { a.number < 2 ^ a.width }
     requires b_narrow { b.width ≤ 64 }
     requires b_below { b.number < 2 ^ b.width }
-    ensures { (i : Inputs) → ReadsPorts cell.now (bit_value a.width a.number) (bit_value b.width b.number) i → result ≡ modulo 128 (formula cell.now.op i) }
+    ensures { (i : CellInputs) → ReadsPorts cell.now (bit_value a.width a.number) (bit_value b.width b.number) i → result ≡ modulo 128 (formula cell.now.op i) }
 {
     low_of(cell, Port::of(a), Port::of(b))
 }
@@ -93,7 +93,7 @@ fn low_of_words(cell: &Cell, a: SigWord, b: SigWord) -> u128
 fn of_narrow(op: Op, a: &Narrow, b: &Narrow) -> u64
     requires kind { is_binary op ≡ true }
     requires plain { is_division op ≡ false }
-    ensures { (i : Inputs) → HasOperands i a.now b.now → result ≡ modulo 64 (formula op i) }
+    ensures { (i : CellInputs) → HasOperands i a.now b.now → result ≡ modulo 64 (formula op i) }
 {
     match op {
         Op::Add => a.sum(b),
@@ -114,7 +114,7 @@ fn low_of_cell(cell: &Cell, a: SigWord, b: SigWord) -> u64
     requires a_below { a.number < 2 ^ a.width }
     requires b_narrow { b.width ≤ 64 }
     requires b_below { b.number < 2 ^ b.width }
-    ensures { (i : Inputs) → ReadsPorts cell.now (bit_value a.width a.number) (bit_value b.width b.number) i → result ≡ modulo 64 (formula cell.now.op i) }
+    ensures { (i : CellInputs) → ReadsPorts cell.now (bit_value a.width a.number) (bit_value b.width b.number) i → result ≡ modulo 64 (formula cell.now.op i) }
 {
     match cell.op {
         Op::Neg => Narrow::operand(cell.a_signed, a).negated(),

@@ -1,7 +1,7 @@
 //! How a shift cell moves the digits of its first operand.
 ghost use Rattle.std.specs.Prelude.{◌≡◌, ◌<◌, ◌≤◌, ◌^◌, ◌%◌, true};
 ghost use Rattle.sim_base.specs.BitValue.{bit_value};
-ghost use Rattle.circuit.specs.Output.{Inputs, modulo, formula};
+ghost use Rattle.circuit.specs.Output.{CellInputs, modulo, formula};
 ghost use Rattle.cell_words.specs.Kinds.{is_shift};
 ghost use Rattle.cell_words.specs.Shifts.{extended, source, moved, places, is_to_the_left, IsAmount, HasWidths, IsPlain};
 
@@ -29,7 +29,7 @@ pub struct Shift {
 fn ones_of(op: Op, width: u32, a_width: u32, negative: bool) -> u32
     requires { is_shift op ≡ true }
     ensures most { result ≤ width }
-    ensures source { (i : Inputs) → HasWidths i width a_width negative → extended result i.a ≡ source op i }
+    ensures source { (i : CellInputs) → HasWidths i width a_width negative → extended result i.a ≡ source op i }
 {
     if !negative {
         return 0;
@@ -59,7 +59,7 @@ pub fn shift_of(cell: &Cell, a_width: u32, negative: bool, amount: Amount) -> Sh
     requires a_width { a_width ≤ 65536 }
     ensures ones { result.ones ≤ cell.now.width }
     ensures left { result.left ≤ cell.now.width }
-    ensures value { (i : Inputs) → HasWidths i cell.now.width a_width negative → IsAmount amount (places cell.now.op i)
+    ensures value { (i : CellInputs) → HasWidths i cell.now.width a_width negative → IsAmount amount (places cell.now.op i)
         → moved result i.a % 2 ^ cell.now.width ≡ modulo cell.now.width (formula cell.now.op i) }
 {
     let ones = ones_of(cell.op, cell.width, a_width, negative);
@@ -103,7 +103,7 @@ pub fn moved_word(shift: Shift, a: Port, width: u32) -> u128
 #[inline(always)]
 pub fn shifted_plainly(op: Op, number: u64, by: u64) -> u64
     requires { is_shift op ≡ true }
-    ensures { (i : Inputs) → IsPlain i number by → result ≡ modulo 64 (formula op i) }
+    ensures { (i : CellInputs) → IsPlain i number by → result ≡ modulo 64 (formula op i) }
 {
     if by > 63 {
         return 0;

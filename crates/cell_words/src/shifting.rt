@@ -2,7 +2,7 @@
 ghost use Rattle.std.specs.Prelude.{◌≡◌, List, ◌<◌, ◌≤◌, ◌^◌, true, false};
 ghost use Rattle.sim_base.specs.BitValue.{BitValue};
 ghost use Rattle.circuit.specs.declared.netlist.Piece.{Piece};
-ghost use Rattle.circuit.specs.Output.{Inputs, operand, output};
+ghost use Rattle.circuit.specs.Output.{CellInputs, operand, output};
 ghost use Rattle.circuit.specs.Signal.{sig_value};
 ghost use Rattle.signal_words.specs.Values.{digits_in, IsSignalOf, IsWordOf};
 ghost use Rattle.signal_words.specs.Written.{IsWritten};
@@ -24,7 +24,7 @@ use sim_base::Bits;
 /// Whether the second operand has a sign, which it has in two types alone.
 fn is_amount_signed(cell: &Cell) -> bool
     requires { is_shift cell.now.op ≡ true }
-    ensures { (i : Inputs) → i.b_signed ≡ cell.now.b_signed → operand result i.b.width i.b.number ≡ places cell.now.op i }
+    ensures { (i : CellInputs) → i.b_signed ≡ cell.now.b_signed → operand result i.b.width i.b.number ≡ places cell.now.op i }
 {
     match cell.op {
         Op::Shift | Op::Shiftx => cell.b_signed,

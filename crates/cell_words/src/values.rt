@@ -1,7 +1,7 @@
 //! Words of values of 1 to 64 bits.
 ghost use Rattle.std.specs.Prelude.{◌≡◌, ℕ, int_lt, ◌%◌, ◌^◌, ◌<◌, ◌≤◌, ◌↔◌, true, IsTrue};
 ghost use Rattle.sim_base.specs.BitValue.{digit_of};
-ghost use Rattle.circuit.specs.Output.{Inputs, formula, left, modulo, operand, right, truth};
+ghost use Rattle.circuit.specs.Output.{CellInputs, formula, left, modulo, operand, right, truth};
 ghost use Rattle.cell_words.specs.Shifts.{is_below_zero};
 ghost use Rattle.cell_words.specs.Kinds.{is_comparison, is_modular};
 
@@ -29,7 +29,7 @@ pub fn low_digits(word: u64, width: u32) -> u64
 #[inline(always)]
 pub fn combined(op: Op, a: u64, b: u64) -> u64
     requires { is_modular op ≡ true }
-    ensures { (i : Inputs) (w : ℕ) → w ≤ 64 → modulo w (left i) ≡ a → modulo w (right i) ≡ b → result % 2 ^ w ≡ modulo w (formula op i) }
+    ensures { (i : CellInputs) (w : ℕ) → w ≤ 64 → modulo w (left i) ≡ a → modulo w (right i) ≡ b → result % 2 ^ w ≡ modulo w (formula op i) }
 {
     match op {
         Op::Add => a.wrapping_add(b),
@@ -63,7 +63,7 @@ pub fn compared(op: Op, signed: bool, width: u32, a: u64, b: u64) -> bool
     requires small { width ≤ 64 }
     requires a { a < 2 ^ width }
     requires b { b < 2 ^ width }
-    ensures { (i : Inputs) → left i ≡ operand signed width a → right i ≡ operand signed width b → formula op i ≡ truth result }
+    ensures { (i : CellInputs) → left i ≡ operand signed width a → right i ≡ operand signed width b → formula op i ≡ truth result }
 {
     match op {
         Op::Lt => is_below(signed, width, a, b),

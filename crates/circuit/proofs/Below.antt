@@ -10,10 +10,10 @@ use Rattle.std.proofs.lemmas.Bool.{and_parts, cases_Bool, cond-true, cond-false,
 use Rattle.std.proofs.lemmas.Option.{none-some, same_Some, option_and_then_some, slice_get-map}
 use Rattle.std.proofs.lemmas.List.Sums.{sum_by-cons}
 use Rattle.circuit.specs.Signal.{Digits, digits_of_nets, piece_width, piece_number, sig_width, sig_number}
-use Rattle.circuit.specs.State.{State, Stored, is_inside, row_at}
+use Rattle.circuit.specs.State.{State, Stored, is_inside, addressed_row}
 use Rattle.circuit.specs.Valuation.{valuation}
-use Rattle.circuit.specs.Next.{Asked, asked, has_edge, is_active, next_by, next_number, next_numbers, all_marked, next_row, next_rows, taken, next_read, next_reads, next_stored, next_mems, next}
-use Rattle.circuit.specs.Run.{Run, Standing, parts, settled, settled_within, standing_after, start_state, start_stored}
+use Rattle.circuit.specs.Next.{RegisterInputs, register_inputs, has_edge, is_active, next_by, next_number, next_numbers, all_marked, next_row, next_rows, transparent_read, next_read, next_reads, next_stored, next_mems, next}
+use Rattle.circuit.specs.Rounds.{Run, Standing, parts, settled, settled_within, standing_after, start_state, start_stored}
 use Rattle.circuit.specs.State.{same_state}
 use Rattle.circuit.specs.Valid.{address_width, counts_fit, cell_fits, drive_fits, is_valid, mem_fits, ports_of, read_fits, register_fits, register_has, sig_fits, sig_of, widest, width_where, write_fits}
 use Rattle.circuit.specs.Below.{AreConstantsBelow, AreRowsBelow, AreValuesBelow, IsBelow, IsRegisterBelow, IsStateBelow}
@@ -50,7 +50,7 @@ sig_below d small (p ∷ ps) below =
 -- ---- registers
 
 -- what each kind takes, loads and is reset to has the register's width
-by_below : (k : RegKind) (w : ℕ) (a : Asked) (own : ℕ) → a.input < 2 ^ width_where (ports_of k).d w → a.load < 2 ^ width_where (ports_of k).load w → a.value < 2 ^ w → own < 2 ^ w → next_by k w a own < 2 ^ w
+by_below : (k : RegKind) (w : ℕ) (a : RegisterInputs) (own : ℕ) → a.input < 2 ^ width_where (ports_of k).d w → a.load < 2 ^ width_where (ports_of k).load w → a.value < 2 ^ w → own < 2 ^ w → next_by k w a own < 2 ^ w
 by_below kind.Dff w a own i l v o = cond_below (2 ^ w) a.edge a.input own i o
 by_below kind.Dffe w a own i l v o = cond_below (2 ^ w) (a.edge && a.enabled) a.input own i o
 by_below kind.Adff w a own i l v o = cond_below (2 ^ w) a.reset a.value (cond a.edge a.input own) v (cond_below (2 ^ w) a.edge a.input own i o)
@@ -100,7 +100,7 @@ has_widths c r h =
 
 number_below : (r : Reg) → HasWidths r → IsRegisterBelow r → (before now : Digits) → ((net bit : ℕ) → now net bit < 2) → (own : ℕ) → own < 2 ^ r.width → next_number before now r own < 2 ^ r.width
 number_below r wide below before now small own o =
-    by_below r.kind r.width (asked before now r) own
+    by_below r.kind r.width (register_inputs before now r) own
     (subst (λ w. sig_number now r.d < 2 ^ w) wide.d (sig_below now small r.d below.d))
     (subst (λ w. sig_number now r.ad < 2 ^ w) wide.ad (sig_below now small r.ad below.ad))
     (subst (λ w. r.value.number < 2 ^ w) wide.value below.value) o
@@ -139,8 +139,8 @@ parts_at width (suc count) n (suc row) = parts_at width count (n / 2 ^ width) ro
 read_below : (before now : Digits) (m : Mem) (rows : List ℕ) (p : ReadPort) (own : ℕ) → own < 2 ^ m.width → next_read before now m rows p own < 2 ^ m.width
 read_below before now m rows p own o =
     let address = sig_number now p.addr in
-    cond_below (2 ^ m.width) (p.clocked && (has_edge p.rising before now p.clk && is_active true now p.en)) (taken before now m rows p) own
-    (cond_below (2 ^ m.width) (is_inside m address) (next_row before now m p.see address (row_at m rows address)) 0 (row_below before now m p.see address (row_at m rows address)) (pow_pos m.width)) o
+    cond_below (2 ^ m.width) (p.clocked && (has_edge p.rising before now p.clk && is_active true now p.en)) (transparent_read before now m rows p) own
+    (cond_below (2 ^ m.width) (is_inside m address) (next_row before now m p.see address (addressed_row m rows address)) 0 (row_below before now m p.see address (addressed_row m rows address)) (pow_pos m.width)) o
 
 reads_at : (before now : Digits) (m : Mem) (rows : List ℕ) (ports : List ReadPort) (owns : List ℕ) (n : ℕ) → slice_index owns n < 2 ^ m.width → slice_index (next_reads before now m rows ports owns) n < 2 ^ m.width
 unfolding next_reads

@@ -2,7 +2,7 @@
 use Rattle.std.proofs.Common.{◌≡◌, ℕ, zero, suc, ◌<◌, ◌≤◌, refl, sym, ◌∙◌, ap, arith, inl, inr, subst, true, false, Option, Some, None}
 use Rattle.std.specs.Prelude.{is_some, option_and_then}
 use Rattle.std.proofs.lemmas.Bool.{cases_Bool, cases_eq, cases_lt, cond-true, cond-false, false≢true}
-use Rattle.circuit.specs.Run.{Run, Standing, settled, settled_samples, standing_after}
+use Rattle.circuit.specs.Rounds.{Run, Standing, settled, settled_samples, standing_after}
 
 none_next : (run : Run) (k : ℕ) (s : Option Standing) → is_some (option_and_then (λ t. settled run.circuit t (run.row k).inputs) s) ≡ true → is_some s ≡ true
 none_next run k None e = absurd (false≢true e)

@@ -6,7 +6,7 @@ use Rattle.std.proofs.lemmas.List.Sums.{sum_by-cons}
 use Rattle.circuit.specs.Signal.{Digits}
 use Rattle.circuit.specs.State.{State}
 use Rattle.circuit.specs.Valuation.{covers, drive_of, driven, given, bits_of, digit_at, IsValuation}
-use Rattle.circuit.specs.Free.{free_within, drive_free, AreDrivesInside, IsInOrder}
+use Rattle.circuit.specs.Acyclic.{acyclic_within, drive_acyclic, AreDrivesInside, IsInOrder}
 use Rattle.circuit.specs.declared.netlist.Circuit.{Circuit}
 use Rattle.circuit.specs.declared.netlist.Drive.{Drive}
 use Rattle.circuit.specs.declared.netlist.Net.{Net}
@@ -108,21 +108,21 @@ find_none test (x ∷ xs) none (suc i) d at on = elim (cases_Bool (test x)) [
   | inr off ↦ find_none test xs (sym (cond-false (test x) (Some x) (find test xs) off) ∙ none) i d at on
 ]
 
-none_free : (c : Circuit) (s net bit : ℕ) → drive_of c net bit ≡ None → free_within c (suc s) net bit ≡ true
-unfolding free_within
-none_free c s net bit e = ap (drive_free c (free_within c s) bit) e
+none_free : (c : Circuit) (s net bit : ℕ) → drive_of c net bit ≡ None → acyclic_within c (suc s) net bit ≡ true
+unfolding acyclic_within
+none_free c s net bit e = ap (drive_acyclic c (acyclic_within c s) bit) e
 
 abbrev bit_free : Circuit → ℕ → ℕ × ℕ → Bool
-bit_free c s x = free_within c (suc s) x.0 x.1
+bit_free c s x = acyclic_within c (suc s) x.0 x.1
 
 other_free : (c : Circuit) (bits : List (ℕ × ℕ)) → AreAllBits c bits → (s : ℕ) (x : ℕ × ℕ) → IsItem x bits ⊎ (bit_free c s x ≡ true)
 other_free c bits all s x = elim (all x.0 x.1) [ inl i ↦ inl i | inr none ↦ inr (none_free c s x.0 x.1 none) ]
 
 -- every bit is free within as many steps as there are bits, and one
-pub free_in_time : (c : Circuit) → IsInOrder c → (net bit : ℕ) → free_within c (suc (bits_of c)) net bit ≡ true
+pub free_in_time : (c : Circuit) → IsInOrder c → (net bit : ℕ) → acyclic_within c (suc (bits_of c)) net bit ≡ true
 free_in_time c order net bit =
-    subst (λ (n : ℕ). free_within c (suc n) net bit ≡ true) (length_bits 0 c.nets)
-    (let h = order.free net bit in
+    subst (λ (n : ℕ). acyclic_within c (suc n) net bit ≡ true) (length_bits 0 c.nets)
+    (let h = order.acyclic net bit in
     chain_end (bits_from 0 c.nets) (bit_free c) (λ s x e. free_more c (suc s) x.0 x.1 e) (λ s down x e. free_keeps c (suc s) (λ n b. down (n, b)) x.0 x.1 e) (other_free c (bits_from 0 c.nets) (all_bits c order.inside)) h.0 (net, bit) (free_more c h.0 net bit h.1))
 
 -- the digits are a valuation

@@ -1,11 +1,12 @@
 -- The rounds of a sample, and its last one.
-use Rattle.std.proofs.Common.{◌≡◌, ℕ, zero, suc, ◌+◌, ◌≤◌, cond, List, [], ◌∷◌, length, refl, sym, ◌∙◌, ap, arith, Bool, true, false, ◌&&◌, Option, Some, None}
+use Rattle.std.proofs.Common.{◌≡◌, ℕ, zero, suc, ◌≤◌, cond, List, [], ◌∷◌, length, refl, sym, ◌∙◌, ap, arith, Bool, true, false, ◌&&◌, Option, Some, None}
 use Rattle.std.specs.Prelude.{◌-◌, is_some, option_and_then, slice_get}
 use Rattle.std.proofs.lemmas.Option.{none-some, same_Some}
 use Rattle.circuit.specs.State.{State, same_state}
 use Rattle.circuit.specs.Valuation.{valuation}
 use Rattle.circuit.specs.Next.{next}
-use Rattle.circuit.specs.Run.{FollowOn, Round, Run, Standing, fails, fires_at, fires_by, nets_after, rounds_at, rounds_from, rounds_within, settled, settled_within, standing_after, standing_at}
+use Rattle.circuit.specs.Rounds.{FollowOn, Round, Run, Standing, nets_after, rounds_at, rounds_from, rounds_within, settled, settled_within, standing_after, standing_at}
+use Rattle.circuit.specs.Shown.{fails, fires_at, fires_by}
 use Rattle.circuit.specs.declared.netlist.Circuit.{Circuit}
 use Rattle.circuit.specs.declared.diagnostic.Diag.{Diag}
 use Rattle.circuit.specs.declared.diagnostic.Trigger.{Trigger}

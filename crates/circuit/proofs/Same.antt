@@ -2,7 +2,7 @@
 use Rattle.std.proofs.Common.{◌≡◌, ℕ, zero, suc, ◌+◌, ◌*◌, ◌^◌, ◌<◌, ◌⊎◌, List, [], ◌∷◌, refl, ap, ◌∙◌, arith, inl, inr}
 use Rattle.circuit.specs.Signal.{Digits, Reads, gathered, sig_number, sig_width}
 use Rattle.sim_base.specs.BitValue.{bit_value}
-use Rattle.circuit.specs.Output.{Inputs, modulo, formula, output}
+use Rattle.circuit.specs.Output.{CellInputs, modulo, formula, output}
 use Rattle.circuit.specs.declared.cell.Cell.{Cell}
 use Rattle.circuit.specs.declared.netlist.Piece.{Piece}
 use Rattle.circuit.specs.declared.netlist.Piece.TheVariants as piece
@@ -24,7 +24,7 @@ sig_same (piece.Part n at w ∷ ps) d e h =
     let g : gathered (λ j. d n (at + j)) w ≡ gathered (λ j. e n (at + j)) w = gathered_same w (λ j. d n (at + j)) (λ j. e n (at + j)) (λ j lt. h n (at + j) (inl (refl, omega arith, omega arith))) in
     cc (t, g)
 
-abbrev with_numbers : Cell → ℕ → ℕ → ℕ → Inputs
+abbrev with_numbers : Cell → ℕ → ℕ → ℕ → CellInputs
 with_numbers c a b s = record {
   width = c.width;
   offset = c.offset;

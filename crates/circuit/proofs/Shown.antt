@@ -10,7 +10,8 @@ use Rattle.std.proofs.lemmas.Option.{option_and_then_some}
 use Rattle.circuit.specs.Signal.{Digits}
 use Rattle.circuit.specs.State.{Stored}
 use Rattle.circuit.specs.Valuation.{valuation, numbers_from, digit_at, bits_of}
-use Rattle.circuit.specs.Run.{Run, Standing, diag_number, fires_at, item_number, row_in, settled, shown, shown_in, slot_number, slots_of, standing_after, standing_at}
+use Rattle.circuit.specs.Rounds.{Run, Standing, settled, standing_after, standing_at}
+use Rattle.circuit.specs.Shown.{diag_number, fires_at, item_number, stored_row, shown, shown_in, slot_number, slots_of}
 use Rattle.circuit.specs.Slots.{item_widths, net_width, row_widths, slot_widths}
 use Rattle.circuit.specs.Below.{AreRowsBelow}
 use Rattle.circuit.specs.declared.netlist.Net.{Net}
@@ -38,7 +39,7 @@ module _ (run : Run) (k : ℕ) (s : Standing) (nets : (n : ℕ) → slice_index 
   diags_below (d ∷ ds) zero = cond_below 2 (fires_at run k d) 1 0 (omega arith) (omega arith)
   diags_below (d ∷ ds) (suc slot) = diags_below ds slot
 
-  rows_at : (n row : ℕ) (m : Option Mem) (kept : Option Stored) → slice_get run.circuit.mems n ≡ m → slice_get s.state.mems n ≡ kept → row < length (row_widths m) → row_in kept row < 2 ^ slice_index (row_widths m) row
+  rows_at : (n row : ℕ) (m : Option Mem) (kept : Option Stored) → slice_get run.circuit.mems n ≡ m → slice_get s.state.mems n ≡ kept → row < length (row_widths m) → stored_row kept row < 2 ^ slice_index (row_widths m) row
   rows_at n row None kept is stored within = absurd (omega (arith, within))
   rows_at n row (Some m) None is stored within = pow_pos (slice_index (row_widths (Some m)) row)
   rows_at n row (Some m) (Some kept) is stored within =

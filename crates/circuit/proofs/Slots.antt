@@ -5,7 +5,7 @@ use Rattle.std.proofs.lemmas.Bool.{ltb-true}
 use Rattle.std.proofs.lemmas.List.{length-map, length-replicate}
 use Rattle.std.proofs.lemmas.List.Concat.{length-flat_map}
 use Rattle.std.proofs.lemmas.List.Sums.{sum_by-cons}
-use Rattle.circuit.specs.Run.{rows_of, slots_of}
+use Rattle.circuit.specs.Shown.{rows_of, slots_of}
 use Rattle.circuit.specs.Slots.{row_widths, item_widths, slot_widths}
 use Rattle.circuit.specs.Valid.{is_valid, is_countable, slot_count}
 use Rattle.circuit.specs.declared.netlist.Circuit.{Circuit}

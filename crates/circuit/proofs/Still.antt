@@ -10,8 +10,8 @@ use Rattle.std.proofs.lemmas.Option.{none-some}
 use Rattle.circuit.specs.Signal.{Digits, digits_of_nets, sig_number}
 use Rattle.circuit.specs.State.{State, Stored, same_stored, same_state}
 use Rattle.circuit.specs.Valuation.{valuation}
-use Rattle.circuit.specs.Next.{is_active, has_edge, Asked, asked, bit_by_bit, next_by, next_number, next_numbers, writes_at, or_else, written, all_marked, next_row, next_rows, taken, next_read, next_reads, next_stored, next_mems, next}
-use Rattle.circuit.specs.Run.{Standing, settled_within}
+use Rattle.circuit.specs.Next.{is_active, has_edge, RegisterInputs, register_inputs, bit_by_bit, next_by, next_number, next_numbers, writes_at, or_else, highest_write, all_marked, next_row, next_rows, transparent_read, next_read, next_reads, next_stored, next_mems, next}
+use Rattle.circuit.specs.Rounds.{Standing, settled_within}
 use Rattle.circuit.specs.declared.netlist.Circuit.{Circuit}
 use Rattle.circuit.specs.declared.netlist.Piece.{Piece}
 use Rattle.circuit.specs.declared.register.Reg.{Reg}
@@ -34,14 +34,14 @@ no_edge rising now clk = by (is_active rising now clk)
     by false = refl
 
 -- the same ports without an edge
-abbrev resting : Asked → Asked
+abbrev resting : RegisterInputs → RegisterInputs
 resting a = record a { edge = false }
 
 pub cond_below : (n : ℕ) (t : Bool) (x y : ℕ) → x < n → y < n → cond t x y < n
 cond_below n true x y lx ly = lx
 cond_below n false x y lx ly = ly
 
-pub bits_digit : (a : Asked) (rest i : ℕ) → cond (a.cleared i) 0 (cond (a.set i) 1 (bit_at rest i)) < 2
+pub bits_digit : (a : RegisterInputs) (rest i : ℕ) → cond (a.cleared i) 0 (cond (a.set i) 1 (bit_at rest i)) < 2
 bits_digit a rest i = cond_below 2 (a.cleared i) 0 (cond (a.set i) 1 (bit_at rest i)) (omega arith) (cond_below 2 (a.set i) 1 (bit_at rest i) (omega arith) (bit_at-lt rest i))
 
 kept_digit : (c s : Bool) (r o : ℕ) → o ≡ cond c 0 (cond s 1 r) → cond c 0 (cond s 1 o) ≡ cond c 0 (cond s 1 r)
@@ -50,7 +50,7 @@ kept_digit false true r o e = refl
 kept_digit false false r o e = e
 
 -- what is bit by bit its own stays so where the bits that are neither cleared nor set keep theirs
-bits_rest : (w : ℕ) (a : Asked) (rest own : ℕ) → bit_by_bit w a rest ≡ own → bit_by_bit w a own ≡ own
+bits_rest : (w : ℕ) (a : RegisterInputs) (rest own : ℕ) → bit_by_bit w a rest ≡ own → bit_by_bit w a own ≡ own
 bits_rest w a rest own e =
     gathered_same w (λ i. cond (a.cleared i) 0 (cond (a.set i) 1 (bit_at own i))) (λ i. cond (a.cleared i) 0 (cond (a.set i) 1 (bit_at rest i)))
     (λ i lt. kept_digit (a.cleared i) (a.set i) (bit_at rest i) (bit_at own i)
@@ -61,7 +61,7 @@ level_line : (level : Bool) (v rest own : ℕ) → cond level v rest ≡ own →
 level_line true v rest own e = e
 level_line false v rest own e = refl
 
-register_rests : (k : RegKind) (w : ℕ) (a : Asked) (own : ℕ) → next_by k w a own ≡ own → next_by k w (resting a) own ≡ own
+register_rests : (k : RegKind) (w : ℕ) (a : RegisterInputs) (own : ℕ) → next_by k w a own ≡ own → next_by k w (resting a) own ≡ own
 register_rests kind.Dff w a own e = refl
 register_rests kind.Dffe w a own e = refl
 register_rests kind.Adff w a own e = level_line a.reset a.value (cond a.edge a.input own) own e
@@ -80,7 +80,7 @@ register_rests kind.Dlatchsr w a own e = e
 
 number_rests : (before now : Digits) (r : Reg) (own : ℕ) → next_number before now r own ≡ own → next_number now now r own ≡ own
 number_rests before now r own e =
-    ap (λ t. next_by r.kind r.width (record (asked before now r) { edge = t }) own) (no_edge r.pol.clk now r.clk) ∙ register_rests r.kind r.width (asked before now r) own e
+    ap (λ t. next_by r.kind r.width (record (register_inputs before now r) { edge = t }) own) (no_edge r.pol.clk now r.clk) ∙ register_rests r.kind r.width (register_inputs before now r) own e
 
 eq_is : (m n : ℕ) → nat_eq m n ≡ true → m ≡ n
 eq_is m n e = grind (arith, nat_tests)
@@ -100,8 +100,8 @@ numbers_rest before now (r ∷ rs) (p ∷ ps) e =
 
 -- ---- memories
 
-nothing_written : (now : Digits) (address i : ℕ) (marks : List Bool) (ports : List WritePort) → written now now address i marks ports ≡ None
-unfolding written
+nothing_written : (now : Digits) (address i : ℕ) (marks : List Bool) (ports : List WritePort) → highest_write now now address i marks ports ≡ None
+unfolding highest_write
 nothing_written now address i marks [] = refl
 nothing_written now address i [] (p ∷ ports) = refl
 nothing_written now address i (mark ∷ marks) (p ∷ ports) =
@@ -118,26 +118,26 @@ last_digit (Some m) t d n later lt e = later n e
 last_digit None true d n later lt e = let s : d ≡ n = grind arith in omega (arith, lt, s)
 last_digit None false d n later lt e = absurd (none-some n e)
 
-written_digit : (before now : Digits) (address i : ℕ) (marks : List Bool) (ports : List WritePort) (n : ℕ) → written before now address i marks ports ≡ Some n → n < 2
-unfolding written
+written_digit : (before now : Digits) (address i : ℕ) (marks : List Bool) (ports : List WritePort) (n : ℕ) → highest_write before now address i marks ports ≡ Some n → n < 2
+unfolding highest_write
 written_digit before now address i marks [] n e = absurd (none-some n e)
 written_digit before now address i [] (p ∷ ports) n e = absurd (none-some n e)
 written_digit before now address i (mark ∷ marks) (p ∷ ports) n e =
-    last_digit (written before now address i marks ports) (mark && writes_at before now address i p) (bit_at (sig_number now p.word) i) n
+    last_digit (highest_write before now address i marks ports) (mark && writes_at before now address i p) (bit_at (sig_number now p.word) i) n
     (λ m is. written_digit before now address i marks ports m is) (bit_at-lt (sig_number now p.word) i) e
 
-pub row_digit : (before now : Digits) (m : Mem) (marks : List Bool) (address own i : ℕ) → unwrap_or (written before now address i marks m.writes) (bit_at own i) < 2
-row_digit before now m marks address own i = by (written before now address i marks m.writes) refl
+pub row_digit : (before now : Digits) (m : Mem) (marks : List Bool) (address own i : ℕ) → unwrap_or (highest_write before now address i marks m.writes) (bit_at own i) < 2
+row_digit before now m marks address own i = by (highest_write before now address i marks m.writes) refl
   where
-    by : (o : Option ℕ) → written before now address i marks m.writes ≡ o → unwrap_or o (bit_at own i) < 2
+    by : (o : Option ℕ) → highest_write before now address i marks m.writes ≡ o → unwrap_or o (bit_at own i) < 2
     by None is = bit_at-lt own i
     by (Some n) is = written_digit before now address i marks m.writes n is
 
 row_rests : (before now : Digits) (m : Mem) (marks : List Bool) (address own : ℕ) → next_row before now m marks address own ≡ own → next_row now now m marks address own ≡ own
 row_rests before now m marks address own e =
-    gathered_same m.width (λ i. unwrap_or (written now now address i marks m.writes) (bit_at own i)) (λ i. unwrap_or (written before now address i marks m.writes) (bit_at own i))
+    gathered_same m.width (λ i. unwrap_or (highest_write now now address i marks m.writes) (bit_at own i)) (λ i. unwrap_or (highest_write before now address i marks m.writes) (bit_at own i))
     (λ i lt. ap (λ o. unwrap_or o (bit_at own i)) (nothing_written now address i marks m.writes)
-    ∙ ap (λ n. bit_at n i) (sym e) ∙ gathered_bit m.width (λ j. unwrap_or (written before now address j marks m.writes) (bit_at own j)) (row_digit before now m marks address own) i lt) ∙ e
+    ∙ ap (λ n. bit_at n i) (sym e) ∙ gathered_bit m.width (λ j. unwrap_or (highest_write before now address j marks m.writes) (bit_at own j)) (row_digit before now m marks address own) i lt) ∙ e
 
 rows_rest : (before now : Digits) (m : Mem) (place : ℕ) (rows : List ℕ) → pointwise nat_eq (next_rows before now m place rows) rows ≡ true → pointwise nat_eq (next_rows now now m place rows) rows ≡ true
 unfolding next_rows
@@ -150,9 +150,9 @@ rows_rest before now m place (own ∷ rows) e =
     (rows_rest before now m (suc place) rows t.1)
 
 read_rests : (now : Digits) (m : Mem) (rows : List ℕ) (p : ReadPort) (own : ℕ) → next_read now now m rows p own ≡ own
-read_rests now m rows p own = ap (λ t. cond (p.clocked && (t && is_active true now p.en)) (taken now now m rows p) own) (no_edge p.rising now p.clk) ∙ by p.clocked
+read_rests now m rows p own = ap (λ t. cond (p.clocked && (t && is_active true now p.en)) (transparent_read now now m rows p) own) (no_edge p.rising now p.clk) ∙ by p.clocked
   where
-    by : (t : Bool) → cond (t && false) (taken now now m rows p) own ≡ own
+    by : (t : Bool) → cond (t && false) (transparent_read now now m rows p) own ≡ own
     by true = refl
     by false = refl
 

@@ -3,7 +3,7 @@ use Rattle.std.proofs.Common.{◌≡◌, ℕ, ◌+◌, ◌-◌, ◌<◌, ◌≤�
 use Rattle.std.specs.List.{list_any}
 use Rattle.std.proofs.lemmas.List.{at_drop_more, at_drop_all}
 use Rattle.std.proofs.lemmas.Grind.{common_steps}
-use Rattle.circuit.specs.Run.{slots_of}
+use Rattle.circuit.specs.Shown.{slots_of}
 use Rattle.circuit.specs.Valid.{numbers_differ, names_differ, names_rise, stands_before, slots_run}
 use Rattle.circuit.specs.declared.netlist.Circuit.{Circuit}
 use Rattle.circuit.specs.declared.item.Item.{Item}

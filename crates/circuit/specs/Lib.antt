@@ -2,9 +2,10 @@ pub mod Signal
 pub mod State
 pub mod Output
 pub mod Valuation
-pub mod Free
+pub mod Acyclic
 pub mod Next
-pub mod Run
+pub mod Rounds
+pub mod Shown
 pub mod Valid
 pub mod Below
 pub mod StateOf

@@ -5,7 +5,7 @@
 use Rattle.std.specs.Prelude.{ℕ, suc, ◌+◌, List, [], ◌∷◌, map, Bool, true, not, ◌&&◌, ◌==◌, Option, Some, None, unwrap_or, if◌then◌else◌}
 use Rattle.std.specs.Int.{bit_at}
 use Rattle.circuit.specs.Signal.{Digits, digits_of_nets, gathered, sig_number}
-use Rattle.circuit.specs.State.{State, Stored, is_inside, row_at}
+use Rattle.circuit.specs.State.{State, Stored, is_inside, addressed_row}
 use Rattle.circuit.specs.declared.netlist.Circuit.{Circuit}
 use Rattle.circuit.specs.declared.netlist.Piece.{Piece}
 use Rattle.circuit.specs.declared.register.Reg.{Reg}
@@ -32,7 +32,7 @@ has_edge rising before now clk = not (is_active rising before clk) && is_active 
 -- ---- registers and latches
 
 -- what a register's table asks: its ports in this round, and its clock's edge since the one before
-pub record Asked : Type 0 where
+pub record RegisterInputs : Type 0 where
   pub edge : Bool
   pub enabled : Bool
   -- of the ports that reset or load all bits
@@ -45,8 +45,8 @@ pub record Asked : Type 0 where
   pub load : ℕ
   pub value : ℕ
 
-abbrev pub asked : Digits → Digits → Reg → Asked
-asked before now r = record {
+abbrev pub register_inputs : Digits → Digits → Reg → RegisterInputs
+register_inputs before now r = record {
   edge = has_edge r.pol.clk before now r.clk;
   enabled = is_active r.pol.en now r.en;
   reset = is_active r.pol.clr now r.clr;
@@ -59,11 +59,11 @@ asked before now r = record {
 }
 
 -- each bit cleared, set, or what the rest gives
-abbrev pub bit_by_bit : ℕ → Asked → ℕ → ℕ
+abbrev pub bit_by_bit : ℕ → RegisterInputs → ℕ → ℕ
 bit_by_bit width a rest = gathered (λ i. if a.cleared i then 0 else (if a.set i then 1 else bit_at rest i)) width
 
 -- the first line of the register's table that holds gives its next number; where none holds it keeps its own
-abbrev pub next_by : RegKind → ℕ → Asked → ℕ → ℕ
+abbrev pub next_by : RegKind → ℕ → RegisterInputs → ℕ → ℕ
 next_by kind.Dff w a own = if a.edge then a.input else own
 next_by kind.Dffe w a own = if a.edge && a.enabled then a.input else own
 next_by kind.Adff w a own = if a.reset then a.value else (if a.edge then a.input else own)
@@ -82,7 +82,7 @@ next_by kind.Dlatchsr w a own = bit_by_bit w a (if a.enabled then a.input else o
 
 -- the register's next number, from its present one
 abbrev pub next_number : Digits → Digits → Reg → ℕ → ℕ
-next_number before now r own = next_by r.kind r.width (asked before now r) own
+next_number before now r own = next_by r.kind r.width (register_inputs before now r) own
 
 unfoldable pub next_numbers : Digits → Digits → List Reg → List ℕ → List ℕ
 next_numbers before now [] presents = []
@@ -102,11 +102,11 @@ or_else (Some n) other = Some n
 or_else None other = other
 
 -- the digit that the highest port writes to bit i of an address, among the ports that are marked
-unfoldable pub written : Digits → Digits → ℕ → ℕ → List Bool → List WritePort → Option ℕ
-written before now address i marks [] = None
-written before now address i [] (p ∷ ps) = None
-written before now address i (mark ∷ marks) (p ∷ ps) =
-    or_else (written before now address i marks ps) (if mark && writes_at before now address i p then Some (bit_at (sig_number now p.word) i) else None)
+unfoldable pub highest_write : Digits → Digits → ℕ → ℕ → List Bool → List WritePort → Option ℕ
+highest_write before now address i marks [] = None
+highest_write before now address i [] (p ∷ ps) = None
+highest_write before now address i (mark ∷ marks) (p ∷ ps) =
+    or_else (highest_write before now address i marks ps) (if mark && writes_at before now address i p then Some (bit_at (sig_number now p.word) i) else None)
 
 -- all ports
 abbrev pub all_marked : List WritePort → List Bool
@@ -114,7 +114,7 @@ all_marked ports = map (λ _. true) ports
 
 -- a row bit by bit: what the highest port writes to it, or else what it had
 abbrev pub next_row : Digits → Digits → Mem → List Bool → ℕ → ℕ → ℕ
-next_row before now m marks address own = gathered (λ i. unwrap_or (written before now address i marks m.writes) (bit_at own i)) m.width
+next_row before now m marks address own = gathered (λ i. unwrap_or (highest_write before now address i marks m.writes) (bit_at own i)) m.width
 
 -- the rows from a place on
 unfoldable pub next_rows : Digits → Digits → Mem → ℕ → List ℕ → List ℕ
@@ -123,14 +123,14 @@ next_rows before now m place (own ∷ rows) = next_row before now m (all_marked 
 
 -- what a read port with a clock takes: the row with what is written to it at this edge by the ports that it sees; outside
 -- the memory 0
-abbrev pub taken : Digits → Digits → Mem → List ℕ → ReadPort → ℕ
-taken before now m rows p =
+abbrev pub transparent_read : Digits → Digits → Mem → List ℕ → ReadPort → ℕ
+transparent_read before now m rows p =
     let address = sig_number now p.addr in
-    if is_inside m address then next_row before now m p.see address (row_at m rows address) else 0
+    if is_inside m address then next_row before now m p.see address (addressed_row m rows address) else 0
 
 abbrev pub next_read : Digits → Digits → Mem → List ℕ → ReadPort → ℕ → ℕ
 next_read before now m rows p own =
-    if p.clocked && (has_edge p.rising before now p.clk && is_active true now p.en) then taken before now m rows p else own
+    if p.clocked && (has_edge p.rising before now p.clk && is_active true now p.en) then transparent_read before now m rows p else own
 
 unfoldable pub next_reads : Digits → Digits → Mem → List ℕ → List ReadPort → List ℕ → List ℕ
 next_reads before now m rows [] owns = []

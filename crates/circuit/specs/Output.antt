@@ -9,7 +9,7 @@ use Rattle.circuit.specs.declared.cell.Op.{Op}
 use Rattle.circuit.specs.declared.cell.Op.TheVariants as op
 
 -- what a cell computes its output from: the width of the output, the offset, the flags and the values of the ports
-pub record Inputs : Type 0 where
+pub record CellInputs : Type 0 where
   pub width : ℕ
   pub offset : ℕ
   pub a_signed : Bool
@@ -30,14 +30,14 @@ modulo width (pos n) = n % 2 ^ width
 modulo width (negsuc n) = (2 ^ width - 1) - n % 2 ^ width
 
 -- both operands of a binary cell are signed where both flags are set
-abbrev pub left : Inputs → ℤ
+abbrev pub left : CellInputs → ℤ
 left i = operand (i.a_signed && i.b_signed) i.a.width i.a.number
 
-abbrev pub right : Inputs → ℤ
+abbrev pub right : CellInputs → ℤ
 right i = operand (i.a_signed && i.b_signed) i.b.width i.b.number
 
 -- the operand of a unary cell, and the first one of a shift
-abbrev pub first : Inputs → ℤ
+abbrev pub first : CellInputs → ℤ
 first i = operand i.a_signed i.a.width i.a.number
 
 -- ---- words of the formulas
@@ -70,21 +70,21 @@ truncated_quotient (negsuc n) (pos m) = neg_ℤ (pos (suc n / m))
 truncated_quotient (negsuc n) (negsuc m) = pos (suc n / suc m)
 
 -- bit by bit on the operands, extended or cut to the width of the output
-abbrev pub bitwise : (ℕ → ℕ → ℕ) → Inputs → ℤ
+abbrev pub bitwise : (ℕ → ℕ → ℕ) → CellInputs → ℤ
 bitwise combine i = pos (combine (modulo i.width (left i)) (modulo i.width (right i)))
 
 -- a zero divisor gives 0
-abbrev pub divided : (ℤ → ℤ → ℤ) → Inputs → ℤ
+abbrev pub divided : (ℤ → ℤ → ℤ) → CellInputs → ℤ
 divided quotient i = if is_zero i.b then pos 0 else quotient (left i) (right i)
 
-abbrev pub remainder : (ℤ → ℤ → ℤ) → Inputs → ℤ
+abbrev pub remainder : (ℤ → ℤ → ℤ) → CellInputs → ℤ
 remainder quotient i = if is_zero i.b then pos 0 else left i -ℤ right i *ℤ quotient (left i) (right i)
 
-abbrev pub is_equal : Inputs → Bool
+abbrev pub is_equal : CellInputs → Bool
 is_equal i = int_le (left i) (right i) && int_le (right i) (left i)
 
 -- the number that is shifted right: the first operand in the larger of its own width and the output's
-abbrev pub widened : Inputs → ℕ
+abbrev pub widened : CellInputs → ℕ
 widened i = modulo (max i.a.width i.width) (first i)
 
 -- by a number of bits to the right, or to the left where the number is below 0
@@ -105,15 +105,15 @@ abbrev pub lowest : BitValue → ℕ
 lowest s = lowest_from s.width 0 s.number
 
 -- one bit of A or of B
-abbrev pub chosen_bit : Inputs → ℕ → ℕ
+abbrev pub chosen_bit : CellInputs → ℕ → ℕ
 chosen_bit i bit = if bit_at i.s.number bit == 1 then bit_at i.b.number bit else bit_at i.a.number bit
 
-abbrev pub equal_bit : Inputs → ℕ → ℕ
+abbrev pub equal_bit : CellInputs → ℕ → ℕ
 equal_bit i bit = if bit_at i.a.number bit == bit_at i.b.number bit then 1 else 0
 
 -- ---- the formula of each type, which is taken modulo 2 to the width of the output
 
-abbrev pub formula : Op → Inputs → ℤ
+abbrev pub formula : Op → CellInputs → ℤ
 formula op.Not i = pos 0 -ℤ pos 1 -ℤ first i
 formula op.Pos i = first i
 formula op.Neg i = pos 0 -ℤ first i
@@ -160,8 +160,8 @@ formula op.Slice i = pos (i.a.number / 2 ^ i.offset)
 formula op.Concat i = pos (i.a.number + i.b.number * 2 ^ i.a.width)
 
 -- what a cell reads under a valuation
-abbrev pub inputs_of : Digits → Cell → Inputs
-inputs_of digits c = record {
+abbrev pub cell_inputs : Digits → Cell → CellInputs
+cell_inputs digits c = record {
   width = c.width;
   offset = c.offset;
   a_signed = c.a_signed;
@@ -173,7 +173,7 @@ inputs_of digits c = record {
 
 -- the number that a cell gives
 abbrev pub output : Digits → Cell → ℕ
-output digits c = modulo c.width (formula c.op (inputs_of digits c))
+output digits c = modulo c.width (formula c.op (cell_inputs digits c))
 
 -- a cell reads a bit
 abbrev pub ReadsBit : Cell → ℕ → ℕ → Type 0

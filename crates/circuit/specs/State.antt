@@ -24,5 +24,5 @@ abbrev pub is_inside : Mem → ℕ → Bool
 is_inside m address = nat_le m.offset address && nat_lt address (m.offset + m.size)
 
 -- the row of an address; outside the memory 0
-abbrev pub row_at : Mem → List ℕ → ℕ → ℕ
-row_at m rows address = if is_inside m address then slice_index rows (address - m.offset) else 0
+abbrev pub addressed_row : Mem → List ℕ → ℕ → ℕ
+addressed_row m rows address = if is_inside m address then slice_index rows (address - m.offset) else 0

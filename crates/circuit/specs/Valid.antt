@@ -5,7 +5,7 @@ use Rattle.std.specs.Cmp.Lexicographic.{slice_cmp}
 use Rattle.std.specs.Ordering.{nat_cmp, is_lt}
 use Rattle.std.specs.Str.{is_utf8}
 use Rattle.circuit.specs.Signal.{sig_width}
-use Rattle.circuit.specs.Run.{slots_of}
+use Rattle.circuit.specs.Shown.{slots_of}
 use Rattle.circuit.specs.declared.netlist.Circuit.{Circuit}
 use Rattle.circuit.specs.declared.netlist.Net.{Net}
 use Rattle.circuit.specs.declared.netlist.Drive.{Drive}

@@ -2,7 +2,7 @@
 use Rattle.std.specs.Prelude.{◌≡◌, ℕ, zero, suc, ◌+◌, ◌-◌, List, [], ◌∷◌, Bool, ◌&&◌, nat_eq, nat_le, nat_lt, Option, Some, None, find, slice_get, slice_index, sum_by, if◌then◌else◌}
 use Rattle.std.specs.Int.{bit_at}
 use Rattle.circuit.specs.Signal.{Digits, gathered, sig_number}
-use Rattle.circuit.specs.State.{State, Stored, row_at}
+use Rattle.circuit.specs.State.{State, Stored, addressed_row}
 use Rattle.circuit.specs.Output.{output}
 use Rattle.circuit.specs.declared.netlist.Circuit.{Circuit}
 use Rattle.circuit.specs.declared.netlist.Net.{Net}
@@ -26,7 +26,7 @@ cell_digit digits (Some c) i = bit_at (output digits c) i
 
 -- the number of a read port: of one without a clock its row, of one with a clock what it keeps
 abbrev pub port_number : Digits → Mem → Stored → ℕ → ReadPort → ℕ
-port_number digits m kept n p = if p.clocked then slice_index kept.reads n else row_at m kept.rows (sig_number digits p.addr)
+port_number digits m kept n p = if p.clocked then slice_index kept.reads n else addressed_row m kept.rows (sig_number digits p.addr)
 
 abbrev pub port_digit : Digits → Mem → Stored → ℕ → Option ReadPort → ℕ → ℕ
 port_digit digits m kept n None i = 0

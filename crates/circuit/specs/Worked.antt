@@ -2,9 +2,9 @@
 use Rattle.std.specs.Prelude.{ℕ, List, [], ◌∷◌, map, Bool, true, false, Option, Some, None, pos, slice_index_or}
 use Rattle.sim_base.specs.BitValue.{BitValue, bit_value}
 use Rattle.circuit.specs.Output.{modulo, formula}
-use Rattle.circuit.specs.Next.{Asked}
-use Rattle.sim_base.specs.declared.kinds.Kinds.{Kinds}
-use Rattle.circuit.specs.Run.{Run, hits, rounds_at, shown}
+use Rattle.circuit.specs.Next.{RegisterInputs}
+use Rattle.circuit.specs.Rounds.{Run, rounds_at}
+use Rattle.circuit.specs.Shown.{hits, shown}
 use Rattle.circuit.specs.declared.netlist.Circuit.{Circuit}
 use Rattle.circuit.specs.declared.netlist.Net.{Net}
 use Rattle.circuit.specs.declared.netlist.Drive.{Drive}
@@ -192,7 +192,7 @@ hit_at asserts assumes samples = map (λ k. hits watched k (record { asserts = a
 
 -- ---- registers at an edge, with these ports
 
-abbrev pub at_edge : Bool → Bool → Bool → Asked
+abbrev pub at_edge : Bool → Bool → Bool → RegisterInputs
 at_edge enabled reset all_set = record {
   edge = true;
   enabled = enabled;

@@ -3,7 +3,8 @@ use Rattle.std.proofs.Common.{◌≡◌, ℕ, zero, suc, List, [], ◌∷◌, �
 use Rattle.std.proofs.lemmas.Bool.{cases_Bool, cond-false, ltb-true}
 use Rattle.std.specs.Prelude.{slice_get}
 use Rattle.std.specs.List.{flat_map}
-use Rattle.circuit.specs.Run.{Run, Standing, item_number, shown, shown_in, slot_number, slots_of, standing_at}
+use Rattle.circuit.specs.Rounds.{Run, Standing, standing_at}
+use Rattle.circuit.specs.Shown.{item_number, shown, shown_in, slot_number, slots_of}
 use Rattle.circuit.specs.declared.netlist.Circuit.{Circuit}
 use Rattle.circuit.specs.declared.item.Item.{Item}
 use Rattle.circuit.specs.declared.item.ItemKind.{ItemKind}

@@ -1,7 +1,7 @@
 -- How a call ends, with what it leaves and its status.
 use Rattle.std.specs.Prelude.{◌≡◌, ℕ, Bool, nat_lt, Option, Some, None, if◌then◌else◌}
 use Rattle.std.specs.Io.KnownBytes.{append_known}
-use Rattle.circuit.specs.Run.{run_length}
+use Rattle.circuit.specs.Rounds.{run_length}
 use Rattle.circuit.specs.declared.netlist.Circuit.{Circuit}
 use Rattle.flat_run.specs.Run.{run_under}
 use Rattle.flat_stimulus.specs.Block.{Block, sample_count}

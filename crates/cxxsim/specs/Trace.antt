@@ -1,7 +1,7 @@
 -- What a trace of two files is.
 use Rattle.std.specs.Prelude.{◌≡◌, ◌⊎◌, ℕ, ◌≤◌, List, ◌++◌, length, Bool, nat_lt, Option, Some, None, option_and_then}
 use Rattle.std.specs.Io.KnownBytes.{append_known}
-use Rattle.circuit.specs.Run.{run_length}
+use Rattle.circuit.specs.Rounds.{run_length}
 use Rattle.circuit.specs.declared.netlist.Circuit.{Circuit}
 use Rattle.flat_text.specs.Module.{module_of}
 use Rattle.flat_design.specs.Circuit.{circuit_of}

@@ -3,7 +3,8 @@ use Rattle.std.specs.Prelude.{ℕ, zero, suc, ◌+◌, ◌/◌, List, [], ◌∷
 use Rattle.std.specs.List.{flat_map}
 use Rattle.sim_base.specs.Digits.{lowest_digits}
 use Rattle.sim_base.specs.TimeText.{time_text}
-use Rattle.circuit.specs.Run.{Run, Standing, item_number, run_length, shown}
+use Rattle.circuit.specs.Rounds.{Run, Standing, run_length}
+use Rattle.circuit.specs.Shown.{item_number, shown}
 use Rattle.circuit.specs.declared.netlist.Circuit.{Circuit}
 use Rattle.circuit.specs.declared.item.Item.{Item}
 use Rattle.circuit.specs.declared.item.ItemKind.{ItemKind}

@@ -1,6 +1,7 @@
 //! The lines of a trace, in a buffer.
 ghost use Rattle.std.specs.Prelude.{◌≡◌, ℕ, ◌<◌, ◌≤◌, ◌++◌, List, Some, decimal, length, slice_get, slice_index, OnOk};
-ghost use Rattle.circuit.specs.Run.{Run, Standing, item_number, standing_at};
+ghost use Rattle.circuit.specs.Rounds.{Run, Standing, standing_at};
+ghost use Rattle.circuit.specs.Shown.{item_number};
 ghost use Rattle.flat_design.specs.Flat.{IsFlat, IsNodeOf, width_of};
 ghost use Rattle.flat_rounds.specs.Fits.{IsStandingOf};
 ghost use Rattle.sim_base.specs.TimeText.{time_text};

@@ -1,7 +1,7 @@
 //! The trace of a run.
 ghost use Rattle.std.specs.Prelude.{◌≡◌, ◌<◌, ◌≤◌, ◌++◌, ◌⊎◌, [], None, Ok, Some, length, false, suc, true, IfOk, IsErr, IsErrOf, nat_lt};
 ghost use Rattle.std.specs.Io.KnownBytes.{append_known};
-ghost use Rattle.circuit.specs.Run.{Run, run_length, standing_after, start};
+ghost use Rattle.circuit.specs.Rounds.{Run, run_length, standing_after, start};
 ghost use Rattle.flat_design.specs.Flat.{IsFlat};
 ghost use Rattle.flat_rounds.specs.Fits.{AreInputs, IsStandingOf};
 ghost use Rattle.flat_stimulus.specs.Block.{row_of, sample_count};

@@ -3,7 +3,7 @@ use Rattle.std.proofs.Common.{◌≡◌, ℕ, zero, suc, ◌+◌, ◌*◌, ◌^�
 use Rattle.std.specs.Prelude.{slice_get}
 use Rattle.std.specs.List.{list_all}
 use Rattle.std.proofs.lemmas.Bool.{and_from, and_parts, le-leb, leb-true, ltb-true}
-use Rattle.circuit.specs.Free.{AreDrivesInside}
+use Rattle.circuit.specs.Acyclic.{AreDrivesInside}
 use Rattle.circuit.specs.Valid.{cell_fits, input_holds, ports_of, register_has, register_holds, cell_holds, port_holds, counts_fit, diag_fits, drive_fits, driver_fits, address_width, inputs_fit, is_countable, is_valid, item_fits, mem_fits, names_differ, names_rise, net_holds, piece_fits, reaches, read_fits, register_fits, sig_fits, sig_of, widths_fit, widths_of, write_fits, scope_fits, slot_count, slots_run, widest}
 use Rattle.std.specs.List.{list_any}
 use Rattle.std.specs.Prelude.{◌==◌}

@@ -5,7 +5,7 @@ use Rattle.std.specs.Option.{option_map}
 use Rattle.std.proofs.lemmas.Bool.{cases_lt, cond-true, cond-false, false≢true, lt-ltb, le-ltb}
 use Rattle.std.proofs.lemmas.Option.{slice_get-map}
 use Rattle.std.proofs.lemmas.List.{length-map}
-use Rattle.circuit.specs.Free.{IsFree, free_within}
+use Rattle.circuit.specs.Acyclic.{IsAcyclic, acyclic_within}
 use Rattle.circuit.specs.Valid.{is_valid}
 use Rattle.circuit.specs.Valuation.{drive_of}
 use Rattle.circuit.specs.declared.netlist.Circuit.{Circuit}
@@ -108,15 +108,15 @@ module _ (c : Circuit) (valid : is_valid c ≡ true) (nodes : List Node) (ports 
         ]
 
     -- a bit in the order is free within as many steps as its place, and one
-    free_up_to : (k : ℕ) (x : Bit) (i : ℕ) → i < k → IsBit c.nets x → slice_get order i ≡ Some (number_of c.nets x) → free_within c (suc i) x.0 x.1 ≡ true
+    free_up_to : (k : ℕ) (x : Bit) (i : ℕ) → i < k → IsBit c.nets x → slice_get order i ≡ Some (number_of c.nets x) → acyclic_within c (suc i) x.0 x.1 ≡ true
     free_up_to zero x i lt b at = absurd (omega (arith, lt))
     free_up_to (suc k) x i lt b at = free_from c i x (λ y dep.
         let j = earlier x y i b at dep in
         let h = free_up_to k y j.0 (omega (arith, lt, j.1)) (back c valid x y dep).0 j.2 in
         let e : (i - suc j.0) + suc j.0 ≡ i = omega (arith, j.1) in
-        subst (λ (s : ℕ). free_within c s y.0 y.1 ≡ true) e (free_later c (suc j.0) (i - suc j.0) y.0 y.1 h))
+        subst (λ (s : ℕ). acyclic_within c s y.0 y.1 ≡ true) e (free_later c (suc j.0) (i - suc j.0) y.0 y.1 h))
 
-    pub done_free : (x : Bit) → IsBit c.nets x → Has marks mark.Done (number_of c.nets x) → IsFree c x.0 x.1
+    pub done_free : (x : Bit) → IsBit c.nets x → Has marks mark.Done (number_of c.nets x) → IsAcyclic c x.0 x.1
     done_free x b done =
         let i = sorted.done_order (number_of c.nets x) done in
         (suc i.0, free_up_to (suc i.0) x i.0 (omega arith) b i.1)
@@ -133,8 +133,8 @@ module _ (c : Circuit) (valid : is_valid c ≡ true) (nodes : List Node) (ports 
               ((y.0, y.1), n.3 y.0 y.1 y.2, node_bits c valid n.0 y.0 y.1 y.2, subst (λ (v : ℕ). Has marks mark.Stuck v) (sym y.3) u.2))
         ]
 
-    not_within : (s : ℕ) (x : Bit) → IsBit c.nets x → Has marks mark.Stuck (number_of c.nets x) → free_within c s x.0 x.1 ≡ true → ⊥
-    unfolding free_within
+    not_within : (s : ℕ) (x : Bit) → IsBit c.nets x → Has marks mark.Stuck (number_of c.nets x) → acyclic_within c s x.0 x.1 ≡ true → ⊥
+    unfolding acyclic_within
     not_within zero x b stuck h = false≢true h
     not_within (suc s) x b stuck h =
         let y = next_stuck x b stuck in
@@ -144,13 +144,13 @@ module _ (c : Circuit) (valid : is_valid c ≡ true) (nodes : List Node) (ports 
     stuck_stuck x b stuck free = not_within free.0 x b stuck free.1
 
     -- a bit that no drive covers is free
-    undriven_free : (x : Bit) → drive_of c x.0 x.1 ≡ None → IsFree c x.0 x.1
+    undriven_free : (x : Bit) → drive_of c x.0 x.1 ≡ None → IsAcyclic c x.0 x.1
     undriven_free x e = (1, free_from c 0 x (λ y dep. absurd (subst (λ (m : Option Drive). DriveTakes c m x.1 y.0 y.1) e dep)))
 
-    pub all_free : ((x : Bit) → IsBit c.nets x → Has marks mark.Done (number_of c.nets x)) → (net bit : ℕ) → IsFree c net bit
+    pub all_free : ((x : Bit) → IsBit c.nets x → Has marks mark.Done (number_of c.nets x)) → (net bit : ℕ) → IsAcyclic c net bit
     all_free done net bit = by_drive (drive_of c net bit) refl
       where
-        by_drive : (o : Option Drive) → drive_of c net bit ≡ o → IsFree c net bit
+        by_drive : (o : Option Drive) → drive_of c net bit ≡ o → IsAcyclic c net bit
         by_drive None e = undriven_free (net, bit) e
         by_drive (Some d) e =
             let at = drive_at c (net, bit) d e in

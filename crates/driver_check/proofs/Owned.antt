@@ -2,7 +2,7 @@
 use Rattle.std.proofs.Common.{◌≡◌, ◌≢◌, ℕ, zero, suc, ◌+◌, ◌-◌, ◌<◌, ◌≤◌, ◌⊎◌, List, [], ◌∷◌, length, refl, sym, ◌∙◌, ap, subst, arith, inl, inr, Bool, true, false, cond, ◌&&◌, Some, None, nat_eq, nat_le, nat_lt}
 use Rattle.std.specs.Prelude.{slice_get, slice_index, ◌==◌, find}
 use Rattle.std.proofs.lemmas.Bool.{cases_Bool, cases_eq, cases_lt, and_parts, and_from, eqb-true, eq-eqb, leb-true, le-leb, ltb-true, lt-ltb, cond-true, cond-false}
-use Rattle.circuit.specs.Free.{AreDrivesInside}
+use Rattle.circuit.specs.Acyclic.{AreDrivesInside}
 use Rattle.circuit.specs.Valuation.{covers, drive_of}
 use Rattle.circuit.specs.declared.netlist.Circuit.{Circuit}
 use Rattle.circuit.specs.declared.netlist.Drive.{Drive}

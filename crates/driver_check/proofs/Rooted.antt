@@ -3,7 +3,7 @@ use Rattle.std.proofs.Common.{◌≡◌, ℕ, ◌+◌, ◌-◌, ◌<◌, ◌≤�
 use Rattle.std.specs.Prelude.{slice_get, slice_index}
 use Rattle.std.specs.Int.{bit_at}
 use Rattle.std.proofs.lemmas.Bool.{cases_eq, cases_lt}
-use Rattle.circuit.specs.Free.{AreDrivesInside, IsDrivenOnce}
+use Rattle.circuit.specs.Acyclic.{AreDrivesInside, IsDrivenOnce}
 use Rattle.circuit.specs.Valid.{drive_fits}
 use Rattle.circuit.specs.Valuation.{covers, drive_of}
 use Rattle.circuit.specs.declared.netlist.Circuit.{Circuit}

@@ -2,7 +2,7 @@
 use Rattle.std.proofs.Common.{◌≡◌, ℕ, zero, suc, ◌+◌, ◌-◌, ◌<◌, ◌≤◌, List, [], ◌∷◌, length, refl, sym, ◌∙◌, ap, subst, arith, inl, inr, true, Option, Some, None}
 use Rattle.std.specs.Prelude.{slice_get}
 use Rattle.std.specs.Int.{bit_at}
-use Rattle.circuit.specs.Free.{IsInOrder}
+use Rattle.circuit.specs.Acyclic.{IsInOrder}
 use Rattle.circuit.specs.Valid.{is_valid}
 use Rattle.circuit.specs.Valuation.{drive_of}
 use Rattle.circuit.specs.declared.netlist.Circuit.{Circuit}
@@ -185,5 +185,5 @@ pub all_done : (c : Circuit) (valid : is_valid c ≡ true) (s : Sorting) (is : I
 all_done c valid s is order x b =
     elim (is.sorted.either (number_of c.nets x) (bit_in_graph c valid s.parts.nodes.items s.parts.ports.items is.parts s.graph is.graph x b)) [
       | inl done ↦ done
-      | inr stuck ↦ absurd (stuck_stuck c valid s.parts.nodes.items s.parts.ports.items is.parts s.graph is.graph s.search.marks.items s.search.order.items is.sorted x b stuck (order.free x.0 x.1))
+      | inr stuck ↦ absurd (stuck_stuck c valid s.parts.nodes.items s.parts.ports.items is.parts s.graph is.graph s.search.marks.items s.search.order.items is.sorted x b stuck (order.acyclic x.0 x.1))
     ]

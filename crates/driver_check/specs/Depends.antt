@@ -3,7 +3,7 @@ use Rattle.std.specs.Prelude.{◌≡◌, ℕ, ◌+◌, ◌-◌, ◌<◌, ◌⊎�
 use Rattle.circuit.specs.Signal.{Reads}
 use Rattle.circuit.specs.Output.{ReadsBit}
 use Rattle.circuit.specs.Valuation.{drive_of}
-use Rattle.circuit.specs.Free.{IsFree}
+use Rattle.circuit.specs.Acyclic.{IsAcyclic}
 use Rattle.circuit.specs.declared.netlist.Circuit.{Circuit}
 use Rattle.circuit.specs.declared.netlist.Drive.{Drive}
 use Rattle.circuit.specs.declared.netlist.By.{By}
@@ -53,4 +53,4 @@ IsBefore x y = (x.0 < y.0) ⊎ ((x.0 ≡ y.0) × (x.1 < y.1))
 
 -- a bit that depends on a cycle, or is in one
 abbrev pub IsStuck : Circuit → Bit → Type 0
-IsStuck c x = IsFree c x.0 x.1 → ⊥
+IsStuck c x = IsAcyclic c x.0 x.1 → ⊥

@@ -1,6 +1,6 @@
 -- What the two faults of a design's drives say.
 use Rattle.std.specs.Prelude.{◌≡◌, ℕ, suc, ◌<◌, ◌⊎◌, List, [], ◌∷◌, length, drop, map, Option, Some, None, true, slice_get}
-use Rattle.circuit.specs.Free.{IsDrivenOnce}
+use Rattle.circuit.specs.Acyclic.{IsDrivenOnce}
 use Rattle.circuit.specs.Valuation.{covers}
 use Rattle.circuit.specs.declared.netlist.Circuit.{Circuit}
 use Rattle.circuit.specs.declared.netlist.Drive.{Drive}

@@ -1,6 +1,6 @@
 -- A circuit whose bits have one drive each, sorted.
 use Rattle.std.specs.Prelude.{◌≡◌, ℕ, ◌<◌, length}
-use Rattle.circuit.specs.Free.{IsDrivenOnce}
+use Rattle.circuit.specs.Acyclic.{IsDrivenOnce}
 use Rattle.circuit.specs.declared.netlist.Circuit.{Circuit}
 use Rattle.driver_check.specs.Numbers.{IsNumbering}
 use Rattle.driver_check.specs.Owners.{AreOwners}

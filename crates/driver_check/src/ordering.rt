@@ -1,6 +1,6 @@
 //! The order of a circuit, or why it has none.
 ghost use Rattle.std.specs.Prelude.{◌≡◌, ◌⊎◌, ◌<◌, ◌^◌, IfErr, IfOk, MatchResult, OnOk, true};
-ghost use Rattle.circuit.specs.Free.{IsDrivenOnce, IsInOrder};
+ghost use Rattle.circuit.specs.Acyclic.{IsDrivenOnce, IsInOrder};
 ghost use Rattle.circuit.specs.Valid.{is_valid};
 ghost use Rattle.circuit.specs.declared.fault.DesignKind.TheVariants as kind;
 ghost use Rattle.driver_check.specs.Faults.{SaysFault, SaysLoop, SaysTwoDrivers};

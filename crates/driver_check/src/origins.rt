@@ -1,6 +1,6 @@
 //! Where the wires from each bit end.
 ghost use Rattle.std.specs.Prelude.{◌≡◌, ◌+◌, ◌<◌, IfOk, length, true, slice_get, slice_index, Some, ℕ};
-ghost use Rattle.circuit.specs.Free.{IsInOrder};
+ghost use Rattle.circuit.specs.Acyclic.{IsInOrder};
 ghost use Rattle.circuit.specs.Valid.{is_valid};
 ghost use Rattle.driver_check.specs.Depends.{Bit};
 ghost use Rattle.driver_check.specs.Numbers.{IsBit, number_of};

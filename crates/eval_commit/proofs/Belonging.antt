@@ -8,7 +8,7 @@ use Rattle.std.proofs.lemmas.Option.{slice_get-get_or}
 use Rattle.sim_base.specs.BitValue.{BitValue, bit_value}
 use Rattle.circuit.specs.Output.{output}
 use Rattle.circuit.specs.Signal.{Digits, sig_number}
-use Rattle.circuit.specs.State.{row_at}
+use Rattle.circuit.specs.State.{addressed_row}
 use Rattle.circuit.specs.declared.memory.ReadPort.{ReadPort}
 use Rattle.memory_cells.specs.Rows.{RowValues}
 use Rattle.circuit.specs.Valid.{cell_holds, driver_fits, port_holds}
@@ -29,7 +29,7 @@ use Rattle.driver_check.proofs.Places.{found, read, same, within}
 use Rattle.signal_words.specs.Stores.{IsStoreOf}
 use Rattle.signal_words.specs.Values.{digits_in, numbers, width_at, widths}
 use Rattle.signal_words.proofs.Fitting.{mapped_at}
-use Rattle.eval_commit.specs.Computed.{cell_number, port_number, read_number}
+use Rattle.eval_commit.specs.Computed.{cell_number, port_row, read_number}
 use Rattle.eval_commit.specs.Spread.{AreRootsInside, IsSpread, offset_of}
 use Rattle.eval_commit.proofs.Written.{number_set, put_widths}
 
@@ -139,9 +139,9 @@ evaluated c store after n x s at e =
 -- ---- the row that a read port gives
 
 pub read_at : (digits : Digits) (mems : List Mem) (rows : List RowValues) (m n : ℕ) (x : Mem) (r : RowValues) (p : ReadPort) → slice_get mems m ≡ Some x → slice_get rows m ≡ Some r → slice_get x.reads n ≡ Some p
-    → read_number digits (slice_get mems m) (slice_get rows m) n ≡ row_at x r.rows (sig_number digits p.addr)
+    → read_number digits (slice_get mems m) (slice_get rows m) n ≡ addressed_row x r.rows (sig_number digits p.addr)
 read_at digits mems rows m n x r p a b e =
-    ap (λ o. read_number digits o (slice_get rows m) n) a ∙ ap (λ o. read_number digits (Some x) o n) b ∙ ap (port_number digits x r) e
+    ap (λ o. read_number digits o (slice_get rows m) n) a ∙ ap (λ o. read_number digits (Some x) o n) b ∙ ap (port_row digits x r) e
 
 -- ---- an element of a loop over a list
 

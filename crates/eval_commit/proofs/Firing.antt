@@ -3,7 +3,8 @@ use Rattle.std.proofs.Common.{◌≡◌, ℕ, zero, suc, List, [], ◌∷◌, ma
 use Rattle.std.specs.Prelude.{slice_get}
 use Rattle.std.specs.List.{list_any}
 use Rattle.std.proofs.lemmas.List.{length-map}
-use Rattle.circuit.specs.Run.{Round, fails, fires_by, is_triggered, nets_after}
+use Rattle.circuit.specs.Rounds.{Round, nets_after}
+use Rattle.circuit.specs.Shown.{fails, fires_by, is_triggered}
 use Rattle.circuit.specs.declared.diagnostic.Diag.{Diag}
 use Rattle.circuit.specs.declared.diagnostic.Trigger.{Trigger}
 use Rattle.state_cells.specs.Diagnostics.{fires_in, fires_where}

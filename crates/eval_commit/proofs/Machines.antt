@@ -3,7 +3,8 @@ use Rattle.std.proofs.Common.{◌≡◌, ℕ, ◌<◌, List, length, map, get_or
 use Rattle.std.specs.Prelude.{is_some, slice_get, slice_index}
 use Rattle.std.proofs.lemmas.Option.{none-some, slice_get-get_or}
 use Rattle.sim_base.specs.BitValue.{BitValue}
-use Rattle.circuit.specs.Run.{Standing, fires_by, rounds_from, row_in, settled}
+use Rattle.circuit.specs.Rounds.{Standing, rounds_from, settled}
+use Rattle.circuit.specs.Shown.{fires_by, stored_row}
 use Rattle.circuit.specs.declared.netlist.Circuit.{Circuit}
 use Rattle.circuit.specs.declared.netlist.Net.{Net}
 use Rattle.circuit.specs.declared.memory.Mem.{Mem}
@@ -56,10 +57,10 @@ module _ (c : Circuit) (plan : Plan) (stuck : Bool) (r : Rounds) (m : MachineSta
   row_sized n x ys q at is item = are.rows.each n x q (subst (λ (k : Circuit). slice_get k.mems n ≡ Some x) circuit_is at) (row_there n x ys q at is item)
 
   pub row_number : (n i : ℕ) (x : Mem) (ys : List RowValues) (q : RowValues) (s : Standing) → slice_get m.circuit.mems n ≡ Some x → ys ≡ r.rows → q ≡ get_or ys n q → m.standing ≡ Some s
-      → slice_index q.rows i ≡ row_in (slice_get s.state.mems n) i
+      → slice_index q.rows i ≡ stored_row (slice_get s.state.mems n) i
   row_number n i x ys q s at is item standing =
       sym (row_kept r.rows r.ports n q i (omega (arith, are.rows.long, ports_long c r.ports are.ports)) (row_there n x ys q at is item))
-      ∙ ap (λ (t : Standing). row_in (slice_get t.state.mems n) i) (stands c stuck r m s view standing)
+      ∙ ap (λ (t : Standing). stored_row (slice_get t.state.mems n) i) (stands c stuck r m s view standing)
 
   -- ---- which diagnostics fired
 

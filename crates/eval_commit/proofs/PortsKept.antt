@@ -10,7 +10,7 @@ use Rattle.std.proofs.lemmas.Slice.Eq.{bytes_eq-Decides}
 use Rattle.std.proofs.Math.Seq.{map-set_same}
 use Rattle.sim_base.specs.BitValue.{BitValue}
 use Rattle.circuit.specs.Next.{next_mems, next_stored}
-use Rattle.circuit.specs.Run.{start_stored}
+use Rattle.circuit.specs.Rounds.{start_stored}
 use Rattle.circuit.specs.Signal.{Digits}
 use Rattle.circuit.specs.State.{Stored, same_stored}
 use Rattle.circuit.specs.Valid.{address_width, is_countable, is_valid, mem_fits, read_fits, sig_of, widest}

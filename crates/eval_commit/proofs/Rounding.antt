@@ -6,7 +6,7 @@ use Rattle.std.proofs.lemmas.Bool.{and_parts, cases_eq, cases_Bool, cond-true, c
 use Rattle.sim_base.specs.BitValue.{BitValue}
 use Rattle.circuit.specs.Signal.{Digits, Reads, sig_number}
 use Rattle.circuit.specs.Output.{ReadsBit, output}
-use Rattle.circuit.specs.State.{State, row_at}
+use Rattle.circuit.specs.State.{State, addressed_row}
 use Rattle.circuit.specs.Valid.{driver_fits, port_holds}
 use Rattle.circuit.specs.Valuation.{IsValuation, cell_digit, covers, given, port_digit, read_digit}
 use Rattle.circuit.specs.declared.netlist.Circuit.{Circuit}
@@ -82,7 +82,7 @@ module _ (c : Circuit) (inputs : List BitValue) (rows : List RowValues) (store :
       let port : slice_get outs.0 n ≡ Some v = sym (ap (option_and_then (λ os. slice_get os n)) outs.1) ∙ e in
       let number : slice_index kept.0.reads n ≡ v.number = holds.reads_are m n x p kept.0 outs.0 a b on kept.1 outs.1 ∙ number_in outs.0 n v port in
       ap (λ (k : ℕ). bit_at k (at + i)) (sym number)
-      ∙ ap (λ (k : ℕ). bit_at k (at + i)) (sym (cond-true p.clocked (slice_index kept.0.reads n) (row_at x kept.0.rows (sig_number digits p.addr)) on))
+      ∙ ap (λ (k : ℕ). bit_at k (at + i)) (sym (cond-true p.clocked (slice_index kept.0.reads n) (addressed_row x kept.0.rows (sig_number digits p.addr)) on))
       ∙ sym (ap (λ o. read_digit digits o (slice_get state.mems m) n (at + i)) a ∙ ap (λ o. read_digit digits (Some x) o n (at + i)) kept.1 ∙ ap (λ o. port_digit digits x kept.0 n o (at + i)) b)
 
   clocked_read : (m n at i : ℕ) (v : BitValue) (o : Option Mem) (end : ℕ) → slice_get c.mems m ≡ o → port_holds n end o ≡ true → IsThereBy c nodes 0 (by.Read m n at)
@@ -188,9 +188,9 @@ module _ (c : Circuit) (inputs : List BitValue) (rows : List RowValues) (store :
       let j : ℕ = takes.0 + i in
       ap (λ (l : ℕ). bit_at (computed c rows (digits_in vs) (node.Read m n)) (l + i)) o
       ∙ ap (λ (l : ℕ). bit_at l j) (read_at (digits_in vs) c.mems rows m n x r.0 p is.2 r.1 is.3)
-      ∙ ap (λ (l : ℕ). bit_at (row_at x r.0.rows l) j) address
-      ∙ ap (λ ns. bit_at (row_at x ns (sig_number digits p.addr)) j) (sym (holds.rows_are m kept.0 r.0 kept.1 r.1))
-      ∙ ap (λ (l : ℕ). bit_at l j) (sym (cond-false p.clocked (slice_index kept.0.reads n) (row_at x kept.0.rows (sig_number digits p.addr)) is.4))
+      ∙ ap (λ (l : ℕ). bit_at (addressed_row x r.0.rows l) j) address
+      ∙ ap (λ ns. bit_at (addressed_row x ns (sig_number digits p.addr)) j) (sym (holds.rows_are m kept.0 r.0 kept.1 r.1))
+      ∙ ap (λ (l : ℕ). bit_at l j) (sym (cond-false p.clocked (slice_index kept.0.reads n) (addressed_row x kept.0.rows (sig_number digits p.addr)) is.4))
       ∙ sym (ap (λ q. read_digit digits q (slice_get state.mems m) n j) is.2 ∙ ap (λ q. read_digit digits (Some x) q n j) kept.1 ∙ ap (λ q. port_digit digits x kept.0 n q j) is.3)
       ∙ ap (λ (d : By). given c state (numbers inputs) digits d i) (sym takes.1)
 

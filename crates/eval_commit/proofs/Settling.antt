@@ -7,7 +7,8 @@ use Rattle.std.proofs.lemmas.Bool.{cond-true, cond-false, and_parts}
 use Rattle.circuit.specs.State.{State, Stored, same_stored, same_state}
 use Rattle.circuit.specs.Valuation.{valuation}
 use Rattle.circuit.specs.Next.{next}
-use Rattle.circuit.specs.Run.{Round, fires_by, rounds_within, settled_within}
+use Rattle.circuit.specs.Rounds.{Round, rounds_within, settled_within}
+use Rattle.circuit.specs.Shown.{fires_by}
 use Rattle.circuit.specs.declared.netlist.Circuit.{Circuit}
 use Rattle.eval_commit.specs.Fired.{all_fired_after, none_fired}
 use Rattle.eval_commit.proofs.Firing.{all_fire_over, all_fired_over}

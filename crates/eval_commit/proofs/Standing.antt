@@ -2,7 +2,8 @@
 use Rattle.std.proofs.Common.{◌≡◌, ℕ, zero, suc, ◌≤◌, List, [], ◌∷◌, map, length, refl, sym, ◌∙◌, ap, subst, arith, Bool, Some, true}
 use Rattle.std.specs.Prelude.{slice_get, slice_index}
 use Rattle.sim_base.specs.BitValue.{BitValue, zeros}
-use Rattle.circuit.specs.Run.{Standing, row_in, start, start_state}
+use Rattle.circuit.specs.Rounds.{Standing, start, start_state}
+use Rattle.circuit.specs.Shown.{stored_row}
 use Rattle.circuit.specs.State.{State, Stored}
 use Rattle.circuit.specs.Store.{start_store}
 use Rattle.circuit.specs.Valuation.{valuation}
@@ -31,7 +32,7 @@ pub ports_long : (c : Circuit) (ports : List (List BitValue)) → ArePortsOf c p
 ports_long c ports e = long_as widths (λ (m : Mem). map (λ _. m.width) m.reads) ports c.mems e
 
 -- a row of a memory
-pub row_kept : (rows : List RowValues) (ports : List (List BitValue)) (n : ℕ) (r : RowValues) (i : ℕ) → length rows ≤ length ports → slice_get rows n ≡ Some r → row_in (slice_get (stored_all rows ports) n) i ≡ slice_index r.rows i
+pub row_kept : (rows : List RowValues) (ports : List (List BitValue)) (n : ℕ) (r : RowValues) (i : ℕ) → length rows ≤ length ports → slice_get rows n ≡ Some r → stored_row (slice_get (stored_all rows ports) n) i ≡ slice_index r.rows i
 unfolding stored_all
 row_kept [] ports n r i le at = cc at
 row_kept (x ∷ xs) [] n r i le at = absurd (omega arith)

@@ -6,7 +6,7 @@ use Rattle.std.proofs.lemmas.Bool.{cond-true}
 use Rattle.std.proofs.lemmas.List.{length-map}
 use Rattle.std.proofs.lemmas.Nat.Bits.{bit_at-zero}
 use Rattle.sim_base.specs.BitValue.{BitValue, zeros}
-use Rattle.circuit.specs.Run.{start_state, start_stored}
+use Rattle.circuit.specs.Rounds.{start_state, start_stored}
 use Rattle.circuit.specs.State.{Stored}
 use Rattle.circuit.specs.Store.{start_read, start_store}
 use Rattle.circuit.specs.declared.netlist.Circuit.{Circuit}

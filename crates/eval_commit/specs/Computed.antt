@@ -2,7 +2,7 @@
 use Rattle.std.specs.Prelude.{◌≡◌, ℕ, List, length, Option, Some, None, slice_get}
 use Rattle.circuit.specs.Signal.{Digits, sig_number}
 use Rattle.circuit.specs.Output.{output}
-use Rattle.circuit.specs.State.{row_at}
+use Rattle.circuit.specs.State.{addressed_row}
 use Rattle.circuit.specs.declared.netlist.Circuit.{Circuit}
 use Rattle.circuit.specs.declared.cell.Cell.{Cell}
 use Rattle.circuit.specs.declared.memory.Mem.{Mem}
@@ -22,12 +22,12 @@ abbrev pub cell_number : Digits → Option Cell → ℕ
 cell_number digits None = 0
 cell_number digits (Some x) = output digits x
 
-abbrev pub port_number : Digits → Mem → RowValues → Option ReadPort → ℕ
-port_number digits m r None = 0
-port_number digits m r (Some p) = row_at m r.rows (sig_number digits p.addr)
+abbrev pub port_row : Digits → Mem → RowValues → Option ReadPort → ℕ
+port_row digits m r None = 0
+port_row digits m r (Some p) = addressed_row m r.rows (sig_number digits p.addr)
 
 abbrev pub read_number : Digits → Option Mem → Option RowValues → ℕ → ℕ
-read_number digits (Some m) (Some r) n = port_number digits m r (slice_get m.reads n)
+read_number digits (Some m) (Some r) n = port_row digits m r (slice_get m.reads n)
 read_number digits _ _ n = 0
 
 -- the output of a cell, or the row at the address of a read port

@@ -1,6 +1,6 @@
 -- Which diagnostics fired, from round to round.
 use Rattle.std.specs.Prelude.{List, [], ◌∷◌, map, Bool, false, ◌||◌, Option, Some, None}
-use Rattle.circuit.specs.Run.{Round}
+use Rattle.circuit.specs.Rounds.{Round}
 use Rattle.circuit.specs.declared.diagnostic.Diag.{Diag}
 use Rattle.circuit.specs.declared.diagnostic.Trigger.{Trigger}
 use Rattle.state_cells.specs.Diagnostics.{fires_in}

@@ -1,6 +1,7 @@
 -- What a machine is to its callers.
 use Rattle.std.specs.Prelude.{ℕ, List, length, map, Bool, ◌&&◌, Option, option_and_then, is_some}
-use Rattle.circuit.specs.Run.{Standing, fires_by, rounds_from, settled}
+use Rattle.circuit.specs.Rounds.{Standing, rounds_from, settled}
+use Rattle.circuit.specs.Shown.{fires_by}
 use Rattle.circuit.specs.declared.netlist.Circuit.{Circuit}
 
 -- a circuit, with its state and the numbers of its nets after the last sample, or neither once a sample did not settle,

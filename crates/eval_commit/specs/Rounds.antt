@@ -1,7 +1,7 @@
 -- A circuit whose rounds are done over stores.
 use Rattle.std.specs.Prelude.{◌≡◌, List, length, map, true}
-use Rattle.circuit.specs.Free.{IsInOrder}
-use Rattle.circuit.specs.Run.{Standing}
+use Rattle.circuit.specs.Acyclic.{IsInOrder}
+use Rattle.circuit.specs.Rounds.{Standing}
 use Rattle.circuit.specs.State.{State}
 use Rattle.circuit.specs.Valid.{is_valid}
 use Rattle.circuit.specs.declared.netlist.Circuit.{Circuit}

@@ -2,7 +2,8 @@
 ghost use Rattle.std.specs.Prelude.{◌≡◌, ℕ, ◌+◌, ◌*◌, ◌<◌, true, Some, None, IfOk, is_some, length, slice_get, slice_index};
 ghost use Rattle.std.specs.Arc.{arc_value};
 ghost use Rattle.sim_base.specs.BitValue.{bit_value};
-ghost use Rattle.circuit.specs.Run.{Standing, row_in, start};
+ghost use Rattle.circuit.specs.Rounds.{Standing, start};
+ghost use Rattle.circuit.specs.Shown.{stored_row};
 ghost use Rattle.circuit.specs.declared.memory.Mem.{Mem as TheMem};
 ghost use Rattle.circuit.specs.declared.netlist.Net.{Net as TheNet};
 ghost use Rattle.signal_words.specs.Values.{numbers};
@@ -99,7 +100,7 @@ impl Machine {
     pub fn row(&self, mem: u32, i: u32, into: &mut Bits)
         requires there { (m : TheMem) × (slice_get self.now.circuit.mems mem ≡ Some m) × (i < m.size) × (into.old.width ≡ m.width) }
         ensures width { into.new.width ≡ into.old.width }
-        ensures row { (s : Standing) → self.now.standing ≡ Some s → into.new ≡ bit_value into.old.width (row_in (slice_get s.state.mems mem) i) }
+        ensures row { (s : Standing) → self.now.standing ≡ Some s → into.new ≡ bit_value into.old.width (stored_row (slice_get s.state.mems mem) i) }
     {
         self.rounds.rows.as_slice()[mem as usize].row(i, into);
     }

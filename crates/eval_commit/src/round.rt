@@ -1,6 +1,6 @@
 //! One valuation of the nets.
 ghost use Rattle.std.specs.Prelude.{◌≡◌, ℕ, ◌+◌, true, length, map};
-ghost use Rattle.circuit.specs.Free.{IsInOrder};
+ghost use Rattle.circuit.specs.Acyclic.{IsInOrder};
 ghost use Rattle.circuit.specs.State.{State};
 ghost use Rattle.circuit.specs.Valid.{is_valid};
 ghost use Rattle.circuit.specs.Valuation.{digit_at, valuation};

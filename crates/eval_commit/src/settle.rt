@@ -1,6 +1,7 @@
 //! The rounds of a sample.
 ghost use Rattle.std.specs.Prelude.{◌≡◌, ℕ, ◌+◌, ◌*◌, Some, None, length, map};
-ghost use Rattle.circuit.specs.Run.{fires_by, rounds_from, settled};
+ghost use Rattle.circuit.specs.Rounds.{rounds_from, settled};
+ghost use Rattle.circuit.specs.Shown.{fires_by};
 ghost use Rattle.signal_words.specs.Values.{numbers};
 ghost use Rattle.eval_commit.specs.Round.{AreInputsOf};
 ghost use Rattle.eval_commit.specs.Rounds.{AreRoundsOf, IsPlanOf, standing_of};

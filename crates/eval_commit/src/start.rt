@@ -1,7 +1,7 @@
 //! What stands before the first sample.
 ghost use Rattle.std.specs.Prelude.{◌≡◌, List, IfOk, map, true};
 ghost use Rattle.sim_base.specs.BitValue.{zeros};
-ghost use Rattle.circuit.specs.Run.{start_state};
+ghost use Rattle.circuit.specs.Rounds.{start_state};
 ghost use Rattle.circuit.specs.Store.{start_store};
 ghost use Rattle.circuit.specs.Valid.{is_valid};
 ghost use Rattle.circuit.specs.declared.netlist.Circuit.{Circuit as TheCircuit};

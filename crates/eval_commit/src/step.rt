@@ -1,7 +1,7 @@
 //! One round of a circuit.
 ghost use Rattle.std.specs.Prelude.{◌≡◌, ◌+◌, ◌<◌, IfOk, not, length, true};
 ghost use Rattle.circuit.specs.Next.{next};
-ghost use Rattle.circuit.specs.Run.{start, start_state};
+ghost use Rattle.circuit.specs.Rounds.{start, start_state};
 ghost use Rattle.circuit.specs.State.{same_state};
 ghost use Rattle.circuit.specs.Valid.{is_valid};
 ghost use Rattle.circuit.specs.Valuation.{valuation};

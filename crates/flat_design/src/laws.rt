@@ -1,6 +1,6 @@
 //! Laws of the circuits of flat modules.
 ghost use Rattle.std.specs.Prelude.{◌≡◌, Some};
-ghost use Rattle.circuit.specs.Free.{IsInOrder};
+ghost use Rattle.circuit.specs.Acyclic.{IsInOrder};
 ghost use Rattle.flat_text.specs.declared.module.Module.{Module};
 ghost use Rattle.flat_design.specs.Circuit.{circuit_of};
 ghost use Rattle.flat_design.specs.Flat.{IsFlat};

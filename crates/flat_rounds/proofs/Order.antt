@@ -3,7 +3,7 @@ use Rattle.std.proofs.Common.{◌≡◌, ℕ, zero, suc, ◌+◌, ◌-◌, ◌<�
 use Rattle.std.specs.Prelude.{find, slice_get}
 use Rattle.std.proofs.lemmas.Bool.{and_parts, and_from, eqb-true, cases_Bool, cond-true, cond-false}
 use Rattle.circuit.specs.Valuation.{covers, drive_of}
-use Rattle.circuit.specs.Free.{Test, all_below, sig_free, cell_free, by_free, drive_free, free_within, IsFree, IsInOrder}
+use Rattle.circuit.specs.Acyclic.{Test, all_below, sig_acyclic, cell_acyclic, by_acyclic, drive_acyclic, acyclic_within, IsAcyclic, IsInOrder}
 use Rattle.circuit.specs.declared.netlist.Circuit.{Circuit}
 use Rattle.circuit.specs.declared.cell.Cell.{Cell}
 use Rattle.circuit.specs.declared.netlist.Drive.{Drive}
@@ -33,21 +33,21 @@ unfolding all_below
 all_from p zero h = refl
 all_from p (suc n) h = and_from (p n) (all_below p n) (h n) (all_from p n h)
 
-sig_from : (free : Test) (ps : List Piece) → ((net bit : ℕ) → ReadsNet ps net → free net bit ≡ true) → sig_free free ps ≡ true
-unfolding sig_free
+sig_from : (free : Test) (ps : List Piece) → ((net bit : ℕ) → ReadsNet ps net → free net bit ≡ true) → sig_acyclic free ps ≡ true
+unfolding sig_acyclic
 sig_from free [] h = refl
 sig_from free (piece.Const v ∷ ps) h = sig_from free ps h
 sig_from free (piece.Part n at w ∷ ps) h =
-    and_from (all_below (λ j. free n (at + j)) w) (sig_free free ps)
+    and_from (all_below (λ j. free n (at + j)) w) (sig_acyclic free ps)
     (all_from (λ j. free n (at + j)) w (λ k. h n (at + k) (inl refl)))
     (sig_from free ps (λ net bit r. h net bit (inr r)))
 
-cell_from : (free : Test) (o : Option Cell) → ((x : Cell) → o ≡ Some x → x.s ≡ []) → ((x : Cell) (net bit : ℕ) → o ≡ Some x → ReadsNet x.a net ⊎ ReadsNet x.b net → free net bit ≡ true) → cell_free free o ≡ true
+cell_from : (free : Test) (o : Option Cell) → ((x : Cell) → o ≡ Some x → x.s ≡ []) → ((x : Cell) (net bit : ℕ) → o ≡ Some x → ReadsNet x.a net ⊎ ReadsNet x.b net → free net bit ≡ true) → cell_acyclic free o ≡ true
 cell_from free None none h = refl
 cell_from free (Some x) none h =
-    and_from (sig_free free x.a) (sig_free free x.b && sig_free free x.s)
+    and_from (sig_acyclic free x.a) (sig_acyclic free x.b && sig_acyclic free x.s)
     (sig_from free x.a (λ net bit r. h x net bit refl (inl r)))
-    (and_from (sig_free free x.b) (sig_free free x.s)
+    (and_from (sig_acyclic free x.b) (sig_acyclic free x.s)
     (sig_from free x.b (λ net bit r. h x net bit refl (inr r)))
     (sig_from free x.s (λ net bit r. absurd (subst (λ (ps : List Piece). ReadsNet ps net) (none x refl) r))))
 
@@ -58,7 +58,7 @@ IsEarlier k m = (d : Drive) (n at : ℕ) → m ≡ Some d → d.by ≡ by.Cell n
 module _ (c : Circuit) (flat : IsFlat c) where
   -- a driver that reads nothing but what is free
   by_from : (free : Test) (k bit net : ℕ) (d : Drive) → ((n : ℕ) (x : Cell) → n < k → slice_get c.cells n ≡ Some x → (net bit : ℕ) → ReadsNet x.a net ⊎ ReadsNet x.b net → free net bit ≡ true)
-      → ((n at : ℕ) → d.by ≡ by.Cell n at → n < k) → (w : ℕ) (b : By) → d.by ≡ b → IsFlatBy c net w b → by_free c free b bit ≡ true
+      → ((n at : ℕ) → d.by ≡ by.Cell n at → n < k) → (w : ℕ) (b : By) → d.by ≡ b → IsFlatBy c net w b → by_acyclic c free b bit ≡ true
   by_from free k bit net d h early w (by.Const v) e flat_by = refl
   by_from free k bit net d h early w (by.Input n at) e flat_by = refl
   by_from free k bit net d h early w (by.Wire n at) e flat_by = absurd flat_by
@@ -67,7 +67,7 @@ module _ (c : Circuit) (flat : IsFlat c) where
   by_from free k bit net d h early w (by.Read m n at) e flat_by = absurd flat_by
 
   drive_from : (free : Test) (k net bit : ℕ) → ((n : ℕ) (x : Cell) → n < k → slice_get c.cells n ≡ Some x → (net bit : ℕ) → ReadsNet x.a net ⊎ ReadsNet x.b net → free net bit ≡ true)
-      → (m : Option Drive) → drive_of c net bit ≡ m → IsEarlier k m → drive_free c free bit m ≡ true
+      → (m : Option Drive) → drive_of c net bit ≡ m → IsEarlier k m → drive_acyclic c free bit m ≡ true
   unfolding IsEarlier
   drive_from free k net bit h None e early = refl
   drive_from free k net bit h (Some d) e early =
@@ -82,12 +82,12 @@ module _ (c : Circuit) (flat : IsFlat c) where
       let before : m < n = flat.order n m at f.0 net x d is r f.1 (covers_net net bit d f.2) b in
       omega (arith, before, lt)
 
-  free_from : (k net bit : ℕ) → IsEarlier k (drive_of c net bit) → free_within c (suc k) net bit ≡ true
-  unfolding free_within
+  free_from : (k net bit : ℕ) → IsEarlier k (drive_of c net bit) → acyclic_within c (suc k) net bit ≡ true
+  unfolding acyclic_within
   free_from zero net bit early =
-      drive_from (free_within c zero) zero net bit (λ n x lt. absurd (omega (arith, lt))) (drive_of c net bit) refl early
+      drive_from (acyclic_within c zero) zero net bit (λ n x lt. absurd (omega (arith, lt))) (drive_of c net bit) refl early
   free_from (suc k) net bit early =
-      drive_from (free_within c (suc k)) (suc k) net bit
+      drive_from (acyclic_within c (suc k)) (suc k) net bit
       (λ n x lt is net bit r. free_from k net bit (reads_earlier n k x net bit lt is r)) (drive_of c net bit) refl early
 
   -- the place behind a cell
@@ -114,7 +114,7 @@ module _ (c : Circuit) (flat : IsFlat c) where
       let g : f ≡ d = cc e in
       behind_is f.by n at (ap (λ (x : Drive). x.by) g ∙ b)
 
-  all_free : (net bit : ℕ) → IsFree c net bit
+  all_free : (net bit : ℕ) → IsAcyclic c net bit
   all_free net bit = (suc (place (drive_of c net bit)), free_from (place (drive_of c net bit)) net bit (place_is (drive_of c net bit)))
 
   pub flat_in_order : IsInOrder c
@@ -123,5 +123,5 @@ module _ (c : Circuit) (flat : IsFlat c) where
     inside = λ i d at.
         let h = flat.drives i d at in
         (h.1.0, h.1.1, (let e : h.1.0.width ≡ d.width = h.1.2 in let z : d.at ≡ 0 = h.0 in omega (arith, e, z)));
-    free = all_free;
+    acyclic = all_free;
   }

@@ -5,7 +5,7 @@ use Rattle.std.specs.Int.{bit_at}
 use Rattle.std.proofs.lemmas.Option.{slice_get_within}
 use Rattle.circuit.specs.Signal.{Digits, digits_of_nets, gathered, piece_number, sig_number, sig_width}
 use Rattle.sim_base.specs.BitValue.{bit_value}
-use Rattle.circuit.specs.Output.{Inputs, modulo, operand, formula, inputs_of, output}
+use Rattle.circuit.specs.Output.{CellInputs, modulo, operand, formula, cell_inputs, output}
 use Rattle.circuit.specs.declared.netlist.Circuit.{Circuit}
 use Rattle.circuit.specs.declared.cell.Cell.{Cell}
 use Rattle.circuit.specs.declared.netlist.Piece.{Piece}
@@ -72,7 +72,7 @@ sig_same (piece.Part n at w ∷ ps) d e h =
 empty_same : (ps : List Piece) (d e : Digits) → ps ≡ [] → sig_number d ps ≡ sig_number e ps
 empty_same ps d e none = sig_same ps d e (λ net bit r. absurd (subst (λ (qs : List Piece). ReadsNet qs net) none r))
 
-abbrev with_numbers : Cell → ℕ → ℕ → ℕ → Inputs
+abbrev with_numbers : Cell → ℕ → ℕ → ℕ → CellInputs
 with_numbers x a b s = record {
   width = x.width;
   offset = x.offset;
@@ -100,7 +100,7 @@ unsigned s t e = ap (λ b. b && t) e
 -- the output of an unsigned sum
 pub output_add : (x : Cell) (d : Digits) → x.op ≡ op.Add → x.a_signed ≡ false → x.b_signed ≡ false → output d x ≡ (sig_number d x.a + sig_number d x.b) % 2 ^ x.width
 output_add x d add a b =
-    ap (λ f. modulo x.width (formula f (inputs_of d x))) add
+    ap (λ f. modulo x.width (formula f (cell_inputs d x))) add
     ∙ ap (λ s. modulo x.width (operand s (sig_width x.a) (sig_number d x.a) +ℤ operand s (sig_width x.b) (sig_number d x.b))) (unsigned x.a_signed x.b_signed a)
 
 -- the number of a signal is that of its first piece

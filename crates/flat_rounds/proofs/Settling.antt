@@ -8,7 +8,7 @@ use Rattle.circuit.specs.Signal.{Digits, digits_of_nets}
 use Rattle.circuit.specs.State.{State, Stored, same_stored, same_state}
 use Rattle.circuit.specs.Valuation.{valuation}
 use Rattle.circuit.specs.Next.{next, next_numbers, next_mems}
-use Rattle.circuit.specs.Run.{Standing, start_state, start_stored, settled_within}
+use Rattle.circuit.specs.Rounds.{Standing, start_state, start_stored, settled_within}
 use Rattle.circuit.specs.declared.memory.Mem.{Mem}
 use Rattle.circuit.specs.declared.netlist.Circuit.{Circuit}
 

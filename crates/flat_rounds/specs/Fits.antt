@@ -1,6 +1,6 @@
 -- Numbers that belong to a circuit.
 use Rattle.std.specs.Prelude.{◌≡◌, ℕ, ◌<◌, ◌^◌, List, [], length, Some, slice_get, slice_index}
-use Rattle.circuit.specs.Run.{Standing}
+use Rattle.circuit.specs.Rounds.{Standing}
 use Rattle.circuit.specs.declared.netlist.Circuit.{Circuit}
 use Rattle.circuit.specs.declared.netlist.Net.{Net}
 use Rattle.circuit.specs.declared.register.Reg.{Reg}

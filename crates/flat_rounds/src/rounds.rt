@@ -1,7 +1,7 @@
 //! Rounds and samples of a flat circuit.
 ghost use Rattle.std.specs.Prelude.{◌≡◌, ℕ, ◌<◌, true, false, Some, None, IfOk, length, slice_index};
 ghost use Rattle.circuit.specs.Next.{next};
-ghost use Rattle.circuit.specs.Run.{settled, start, start_state};
+ghost use Rattle.circuit.specs.Rounds.{settled, start, start_state};
 ghost use Rattle.circuit.specs.State.{same_state};
 ghost use Rattle.circuit.specs.Valuation.{valuation};
 ghost use Rattle.flat_design.specs.Flat.{IsFlat};
@@ -31,7 +31,7 @@ pub struct Rounds {
 
 impl Model for Rounds {
     ghost use Rattle.std.specs.Prelude.{◌≡◌, [], length};
-    ghost use Rattle.circuit.specs.Run.{Standing};
+    ghost use Rattle.circuit.specs.Rounds.{Standing};
 
     ghost Value = { Standing };
 

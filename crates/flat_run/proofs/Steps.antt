@@ -2,7 +2,7 @@
 use Rattle.std.proofs.Common.{◌≡◌, ℕ, suc, ◌+◌, ◌<◌, ◌≤◌, true, false, Option, Some, None, sym, ◌∙◌, ap, arith, add-one, inl, inr, List, min}
 use Rattle.std.specs.Prelude.{is_some, option_and_then}
 use Rattle.std.proofs.lemmas.Bool.{cases_lt, false≢true}
-use Rattle.circuit.specs.Run.{Run, Standing, run_length, settled, standing_after, start}
+use Rattle.circuit.specs.Rounds.{Run, Standing, run_length, settled, standing_after, start}
 use Rattle.circuit.proofs.Length.{unsettled_above}
 
 pub stands_first : (run : Run) (s : Standing) → s ≡ start run.circuit → standing_after run 0 ≡ Some s

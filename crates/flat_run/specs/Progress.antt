@@ -1,6 +1,6 @@
 -- How far a run has been followed.
 use Rattle.std.specs.Prelude.{◌≡◌, ◌≤◌, length, true, false, Some}
-use Rattle.circuit.specs.Run.{run_length, standing_after}
+use Rattle.circuit.specs.Rounds.{run_length, standing_after}
 use Rattle.circuit.specs.declared.netlist.Circuit.{Circuit}
 use Rattle.flat_design.specs.Flat.{IsFlat}
 use Rattle.flat_rounds.specs.Fits.{IsStandingOf}

@@ -1,6 +1,6 @@
 //! How far a run has been followed.
 ghost use Rattle.std.specs.Prelude.{◌≡◌, ◌<◌, ◌≤◌, ◌+◌, true, false, Some, None, IfOk, length, min};
-ghost use Rattle.circuit.specs.Run.{run_length, standing_after};
+ghost use Rattle.circuit.specs.Rounds.{run_length, standing_after};
 ghost use Rattle.flat_design.specs.Flat.{IsFlat};
 ghost use Rattle.flat_run.specs.Progress.{IsProgress};
 ghost use Rattle.flat_run.specs.Run.{AreSamples, run_under};

@@ -1,6 +1,6 @@
 //! A run, of which a contract sees what it means.
 ghost use Rattle.std.specs.Prelude.{◌≡◌, ◌<◌, ◌≤◌, [], IfOk, min};
-ghost use Rattle.circuit.specs.Run.{run_length};
+ghost use Rattle.circuit.specs.Rounds.{run_length};
 ghost use Rattle.flat_design.specs.Flat.{IsFlat};
 ghost use Rattle.flat_run.specs.Run.{AreSamples, run_of};
 ghost use Rattle.flat_stimulus.specs.Until.{samples_until};

@@ -1,7 +1,7 @@
 -- A block of rows that is repeated, and the samples that it gives.
 use Rattle.std.specs.Prelude.{◌≡◌, ℕ, ◌+◌, ◌*◌, ◌/◌, ◌%◌, ◌<◌, ◌≤◌, List, [], length, map, Some, slice_get, slice_index, slice_index_or}
 use Rattle.sim_base.specs.TimeText.{largest_time}
-use Rattle.circuit.specs.Run.{Row}
+use Rattle.circuit.specs.Rounds.{Row}
 use Rattle.flat_stimulus.specs.declared.row.BlockRow.{BlockRow}
 
 -- `columns` has for each input of the circuit the number of its column

@@ -1,6 +1,6 @@
 -- How many samples there are until a time.
 use Rattle.std.specs.Prelude.{ℕ, zero, suc, ◌+◌, nat_le, if◌then◌else◌}
-use Rattle.circuit.specs.Run.{Row}
+use Rattle.circuit.specs.Rounds.{Row}
 
 -- of the first so many rows, those at or before a time
 unfoldable pub samples_until : (ℕ → Row) → ℕ → ℕ → ℕ

@@ -1,5 +1,6 @@
 -- What the rules ask of a run, of a circuit under its samples.
-use Rattle.circuit.specs.Run.{Run, hits, run_length}
+use Rattle.circuit.specs.Rounds.{Run, run_length}
+use Rattle.circuit.specs.Shown.{hits}
 use Rattle.hall_core.specs.Legal.{RunFacts}
 
 abbrev pub facts_of : Run → RunFacts

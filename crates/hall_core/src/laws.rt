@@ -3,7 +3,7 @@ ghost use Rattle.std.specs.Prelude.{◌≡◌, ◌≢◌, ◌<◌, ◌≤◌, is
 ghost use Rattle.std.specs.List.{list_any};
 ghost use Rattle.hall_core.specs.declared.entry.Entry.{Entry};
 ghost use Rattle.hall_core.specs.declared.entry.Goal.TheVariants.{Hold as Held};
-ghost use Rattle.circuit.specs.Run.{Run, standing_at};
+ghost use Rattle.circuit.specs.Rounds.{Run, standing_at};
 ghost use Rattle.hall_core.specs.Facts.{facts_of};
 ghost use Rattle.hall_core.specs.Laws.{AllSmall, BeginsWithSample, IsUnsettledAtOnce, Taken, is_recording, is_run, is_there};
 ghost use Rattle.hall_core.specs.Legal.{Legal, RunFacts, allowed, is_open};

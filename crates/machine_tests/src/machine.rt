@@ -38,7 +38,7 @@ fn set_input(inputs: &mut Values<Bits>, n: usize, number: u64)
 }
 
 /// Inputs with these numbers.
-fn inputs_of(alloc: Global, circuit: &Circuit, numbers: &[u64]) -> Result<Values<Bits>, NoMemory>
+fn cell_inputs(alloc: Global, circuit: &Circuit, numbers: &[u64]) -> Result<Values<Bits>, NoMemory>
     ensures { IfOk result (λ inputs. AreInputsOf circuit.now inputs) }
 {
     let mut inputs = zero_inputs(alloc, circuit)?;

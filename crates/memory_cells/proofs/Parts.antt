@@ -6,7 +6,7 @@ use Rattle.std.proofs.Math.Nat.{mul-le-mul_right}
 use Rattle.std.specs.Int.{bit_at}
 use Rattle.sim_base.specs.BitValue.{BitValue, bit_value, digit_after_copy}
 use Rattle.sim_base.proofs.Words.{copied_in}
-use Rattle.circuit.specs.Run.{parts}
+use Rattle.circuit.specs.Rounds.{parts}
 use Rattle.circuit.specs.declared.memory.Mem.{Mem}
 use Rattle.memory_cells.specs.Rows.{AreRowsOf, RowValues}
 use Rattle.state_cells.proofs.Same.{same_value}

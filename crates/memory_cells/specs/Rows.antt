@@ -1,6 +1,6 @@
 -- The rows of a memory.
 use Rattle.std.specs.Prelude.{◌≡◌, ℕ, List, length}
-use Rattle.circuit.specs.Run.{start_stored}
+use Rattle.circuit.specs.Rounds.{start_stored}
 use Rattle.circuit.specs.declared.memory.Mem.{Mem}
 
 -- the width of a row in bits, and the number of each row

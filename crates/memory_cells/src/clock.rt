@@ -3,7 +3,7 @@ ghost use Rattle.std.specs.Prelude.{◌≡◌, ◌<◌, not, map, Some, length, 
 ghost use Rattle.sim_base.specs.BitValue.{bit_value};
 ghost use Rattle.circuit.specs.Next.{next_stored};
 ghost use Rattle.circuit.specs.Signal.{sig_number};
-ghost use Rattle.circuit.specs.State.{row_at, same_stored};
+ghost use Rattle.circuit.specs.State.{addressed_row, same_stored};
 ghost use Rattle.circuit.specs.declared.memory.ReadPort.{ReadPort};
 ghost use Rattle.signal_words.specs.Values.{digits_in, widths};
 ghost use Rattle.memory_cells.specs.Ports.{IsMemoryOf, stored};
@@ -23,7 +23,7 @@ pub fn read_port(mem: &Mem, port: u32, rows: &Rows, now: &Store, into: &mut Bits
     requires there { port < length mem.now.reads }
     requires rows { AreRowsOf mem.now rows.now }
     requires width { into.old.width ≡ mem.now.width }
-    ensures { (p : ReadPort) → slice_get mem.now.reads port ≡ Some p → into.new ≡ bit_value mem.now.width (row_at mem.now rows.now.rows (sig_number (digits_in now.now.nets) p.addr)) }
+    ensures { (p : ReadPort) → slice_get mem.now.reads port ≡ Some p → into.new ≡ bit_value mem.now.width (addressed_row mem.now rows.now.rows (sig_number (digits_in now.now.nets) p.addr)) }
 {
     let port = &mem.reads.as_slice()[port as usize];
     match place_of(mem, port.addr.as_slice(), now.nets.as_slice()) {

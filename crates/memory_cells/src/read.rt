@@ -2,8 +2,8 @@
 ghost use Rattle.std.specs.Prelude.{◌≡◌, ◌*◌, ◌≤◌, ◌==◌, ◌&&◌, not, map, nat_eq, true};
 ghost use Rattle.std.specs.Cmp.Lexicographic.{pointwise};
 ghost use Rattle.sim_base.specs.BitValue.{bit_value};
-ghost use Rattle.circuit.specs.Next.{has_edge, is_active, next_read, next_reads, taken};
-ghost use Rattle.circuit.specs.Run.{parts};
+ghost use Rattle.circuit.specs.Next.{has_edge, is_active, next_read, next_reads, transparent_read};
+ghost use Rattle.circuit.specs.Rounds.{parts};
 ghost use Rattle.circuit.specs.Signal.{sig_width};
 ghost use Rattle.signal_words.specs.Values.{AreInside, digits_in, numbers, widths};
 ghost use Rattle.memory_cells.specs.Ports.{IsMemoryOf, IsReadPortOf};
@@ -86,7 +86,7 @@ fn take_row(mem: &Mem, port: &ReadPort, rows: &Bits, row: &mut Bits, before: &[B
     requires port { IsReadPortOf before.now now.now mem.now port.now }
     requires rows { rows.now.width ≡ mem.now.size * mem.now.width }
     requires row { row.old.width ≡ mem.now.width }
-    ensures { row.new ≡ bit_value mem.now.width (taken (digits_in before.now) (digits_in now.now) mem.now (parts mem.now.width mem.now.size rows.now.number) port.now) }
+    ensures { row.new ≡ bit_value mem.now.width (transparent_read (digits_in before.now) (digits_in now.now) mem.now (parts mem.now.width mem.now.size rows.now.number) port.now) }
 {
     match place_of(mem, port.addr.as_slice(), now) {
         Some(place) => {

@@ -6,7 +6,7 @@ use Rattle.std.proofs.lemmas.Bool.{and_parts, false≢true}
 use Rattle.std.proofs.lemmas.Bool.Decides.{nat_tests}
 use Rattle.std.proofs.lemmas.List.{append_assoc, length_push, take-append-le}
 use Rattle.std.proofs.Math.Seq.{take-append_seam}
-use Rattle.circuit.specs.Run.{Run}
+use Rattle.circuit.specs.Rounds.{Run}
 use Rattle.hall_core.specs.Laws.{is_recording}
 use Rattle.hall_core.specs.declared.entry.Act.{Act}
 use Rattle.hall_core.specs.declared.entry.Entry.{Entry}

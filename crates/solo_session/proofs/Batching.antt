@@ -5,7 +5,8 @@ use Rattle.std.proofs.lemmas.Bool.Decides.{nat_tests}
 use Rattle.std.specs.Prelude.{nat_le, nat_lt, ◌==◌, ◌&&◌, ◌||◌}
 use Rattle.sim_base.specs.declared.kinds.Kinds.{Kinds}
 use Rattle.std.specs.List.{list_any}
-use Rattle.circuit.specs.Run.{Run, fires_at, hits, is_among, run_length}
+use Rattle.circuit.specs.Rounds.{Run, run_length}
+use Rattle.circuit.specs.Shown.{fires_at, hits, is_among}
 use Rattle.hall_core.specs.Facts.{facts_of}
 use Rattle.hall_core.specs.Legal.{RunFacts, allowed}
 use Rattle.hall_core.specs.Replay.{State, after}

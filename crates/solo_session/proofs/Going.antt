@@ -4,7 +4,7 @@ use Rattle.std.specs.Prelude.{nat_le, slice_get, ◌||◌}
 use Rattle.std.specs.List.{list_all}
 use Rattle.std.proofs.lemmas.Bool.Decides.{nat_tests}
 use Rattle.std.proofs.lemmas.List.{append_assoc, length_push}
-use Rattle.circuit.specs.Run.{Row, Run, run_length}
+use Rattle.circuit.specs.Rounds.{Row, Run, run_length}
 use Rattle.flat_run.specs.Run.{Sampled, run_of}
 use Rattle.flat_stimulus.specs.Until.{samples_until}
 use Rattle.hall_core.specs.Facts.{facts_of}

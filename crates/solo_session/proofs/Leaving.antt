@@ -4,7 +4,7 @@ use Rattle.std.specs.Prelude.{OnErr}
 use Rattle.std.specs.declared.result.Result.{Result}
 use Rattle.std.specs.Io.KnownBytes.{append_known, prepend_known}
 use Rattle.std.proofs.lemmas.List.{append_assoc, take_all}
-use Rattle.circuit.specs.Run.{Run}
+use Rattle.circuit.specs.Rounds.{Run}
 use Rattle.flat_run.specs.Run.{Sampled, run_of}
 use Rattle.frame_zero.specs.Packets.{packets, whole}
 use Rattle.hall_core.specs.declared.entry.Entry.{Entry}

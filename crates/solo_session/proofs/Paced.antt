@@ -5,7 +5,7 @@ use Rattle.std.proofs.lemmas.Bool.{and_parts, cases_Bool, cond-true, cond-false,
 use Rattle.std.proofs.lemmas.Bool.Decides.{nat_tests}
 use Rattle.std.proofs.lemmas.List.{append_assoc, length_push}
 use Rattle.sim_base.specs.declared.kinds.Kinds.{Kinds}
-use Rattle.circuit.specs.Run.{Run, run_length}
+use Rattle.circuit.specs.Rounds.{Run, run_length}
 use Rattle.flat_run.specs.Run.{run_of}
 use Rattle.frame_zero.specs.Packets.{packets}
 use Rattle.hall_core.specs.Facts.{facts_of}

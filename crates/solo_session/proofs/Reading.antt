@@ -6,7 +6,7 @@ use Rattle.std.specs.Io.KnownBytes.{IsAtEnd, append_known, prepend_known}
 use Rattle.std.proofs.Math.Seq.{take-append-add, take-append_seam}
 use Rattle.std.proofs.lemmas.List.{append_assoc, length-take-le}
 use Rattle.std.proofs.lemmas.Bool.Decides.{nat_tests}
-use Rattle.circuit.specs.Run.{run_length}
+use Rattle.circuit.specs.Rounds.{run_length}
 use Rattle.flat_run.specs.Run.{Sampled, run_of}
 use Rattle.frame_zero.specs.Packets.{Begins, Packet, packets, packets_from, parts_of, too_long, whole}
 use Rattle.frame_zero.proofs.PacketLaws.{packets-append}

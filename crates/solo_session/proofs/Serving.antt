@@ -3,7 +3,7 @@ use Rattle.std.proofs.Common.{◌≡◌, ◌≢◌, ℕ, zero, suc, ◌+◌, ◌
 use Rattle.std.specs.Prelude.{nat_le, nat_lt, slice_get, ◌==◌, ◌&&◌, ◌||◌}
 use Rattle.std.proofs.lemmas.Bool.{cases_Bool, cases_lt, cond-true, cond-false, false≢true}
 use Rattle.std.proofs.lemmas.Bool.Decides.{nat_tests}
-use Rattle.circuit.specs.Run.{Run, run_length}
+use Rattle.circuit.specs.Rounds.{Run, run_length}
 use Rattle.circuit.proofs.Length.{length_within}
 use Rattle.sim_base.specs.declared.kinds.Kinds.{Kinds}
 use Rattle.hall_core.specs.Legal.{allowed, is_open, is_true, may_act, is_over, may_follow, may_begin, lets}

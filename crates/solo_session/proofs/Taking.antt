@@ -5,7 +5,7 @@ use Rattle.std.specs.List.{list_all, list_any}
 use Rattle.std.proofs.lemmas.Bool.{and_parts, cases_Bool, cases_lt, cond-true, cond-false, not-true, or_parts}
 use Rattle.std.proofs.lemmas.Bool.Decides.{nat_tests}
 use Rattle.std.proofs.lemmas.List.{append_assoc}
-use Rattle.circuit.specs.Run.{Run}
+use Rattle.circuit.specs.Rounds.{Run}
 use Rattle.hall_core.specs.Facts.{facts_of}
 use Rattle.hall_core.specs.Laws.{Taken, one_more, is_recording}
 use Rattle.hall_core.specs.Legal.{HitsAsSaid, Legal, Meets, RunFacts, allowed, is_open, is_over, is_true, some_open}

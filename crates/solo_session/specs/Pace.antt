@@ -1,7 +1,7 @@
 -- The history of a run with one client: the pace at which samples are recorded between its packets.
 use Rattle.std.specs.Prelude.{ℕ, zero, suc, ◌+◌, ◌-◌, ◌==◌, List, [], ◌∷◌, ◌++◌, length, take, map, Bool, true, false, not, ◌&&◌, ◌||◌, nat_le, nat_lt, if◌then◌else◌}
 use Rattle.sim_base.specs.declared.kinds.Kinds.{Kinds}
-use Rattle.circuit.specs.Run.{Run, run_length}
+use Rattle.circuit.specs.Rounds.{Run, run_length}
 use Rattle.frame_zero.specs.Packets.{Packet, packets, whole, too_long}
 use Rattle.hall_core.specs.Facts.{facts_of}
 use Rattle.hall_core.specs.Legal.{RunFacts, allowed}

@@ -1,6 +1,6 @@
 -- What a client is sent for a packet, and where a goal is reached.
 use Rattle.std.specs.Prelude.{ℕ, ◌-◌, ◌==◌, List, [], Bool, true, false, ◌&&◌, ◌||◌, Option, Some, None, Ok, Err, if◌then◌else◌}
-use Rattle.circuit.specs.Run.{Run}
+use Rattle.circuit.specs.Rounds.{Run}
 use Rattle.flat_stimulus.specs.Until.{samples_until}
 use Rattle.hall_core.specs.Replay.{State, after, reaches}
 use Rattle.hall_core.specs.declared.entry.Act.{Act}

@@ -1,7 +1,7 @@
 -- The bytes that a history and a client's own packets give to that client.
 use Rattle.std.specs.Prelude.{◌≡◌, ℕ, ◌<◌, ◌≤◌, ◌==◌, List, [], ◌∷◌, ◌++◌, length, take, Bool, false, ◌&&◌, Option, Some, None, slice_get, if◌then◌else◌}
 use Rattle.std.specs.List.{count_by}
-use Rattle.circuit.specs.Run.{Run}
+use Rattle.circuit.specs.Rounds.{Run}
 use Rattle.hall_core.specs.Legal.{is_open}
 use Rattle.hall_core.specs.Replay.{State, after, replay}
 use Rattle.hall_core.specs.declared.entry.Act.{Act}

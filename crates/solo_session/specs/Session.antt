@@ -1,6 +1,6 @@
 -- What a contract sees of a session, and what holds of one while its client is served.
 use Rattle.std.specs.Prelude.{◌≡◌, ⊤, ℕ, ◌<◌, ◌≤◌, List, [], ◌∷◌, ◌++◌, length, map, Bool, true, false, if◌then◌else◌}
-use Rattle.circuit.specs.Run.{Run, run_length}
+use Rattle.circuit.specs.Rounds.{Run, run_length}
 use Rattle.flat_run.specs.Run.{Sampled, run_of}
 use Rattle.frame_zero.specs.Packets.{packets, too_long, whole}
 use Rattle.hall_core.specs.Facts.{facts_of}

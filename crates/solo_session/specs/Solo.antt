@@ -1,7 +1,7 @@
 -- What a session with one client did, by the bytes that the client sent.
 use Rattle.std.specs.Prelude.{◌≡◌, ◌⊎◌, ⊤, ℕ, ◌+◌, ◌≤◌, List, [], ◌∷◌, ◌++◌, length, take, Bool, true, not, ◌&&◌, nat_lt, Option, Some, None, if◌then◌else◌}
 use Rattle.std.specs.Io.KnownBytes.{IsAtEnd, append_known, prepend_known}
-use Rattle.circuit.specs.Run.{Run}
+use Rattle.circuit.specs.Rounds.{Run}
 use Rattle.flat_run.specs.Run.{Sampled, run_of}
 use Rattle.frame_zero.specs.Packets.{packets}
 use Rattle.hall_core.specs.Facts.{facts_of}

@@ -1,6 +1,6 @@
 //! Laws of a run with one client. A function here does nothing: its contract is the law.
 ghost use Rattle.std.specs.Prelude.{◌≡◌, ◌≤◌, ◌++◌, ◌∷◌, [], List, length, ℕ};
-ghost use Rattle.circuit.specs.Run.{Run, run_length};
+ghost use Rattle.circuit.specs.Rounds.{Run, run_length};
 ghost use Rattle.hall_core.specs.Facts.{facts_of};
 ghost use Rattle.hall_core.specs.Legal.{Legal};
 ghost use Rattle.hall_core.specs.Replay.{replay};

@@ -1,6 +1,6 @@
 //! The session of the one client.
 ghost use Rattle.std.specs.Prelude.{◌≡◌, ◌≢◌, ℕ, ◌+◌, ◌-◌, ◌<◌, ◌≤◌, List, [], ◌∷◌, ◌++◌, length, true, false, Err, Ok, IfOk, OnOk, ◌&&◌, ◌||◌, if◌then◌else◌};
-ghost use Rattle.circuit.specs.Run.{run_length};
+ghost use Rattle.circuit.specs.Rounds.{run_length};
 ghost use Rattle.flat_run.specs.Run.{run_of};
 ghost use Rattle.hall_core.specs.Facts.{facts_of};
 ghost use Rattle.hall_core.specs.Hall.{entries as entries_of};

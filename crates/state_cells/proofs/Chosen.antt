@@ -1,6 +1,6 @@
 -- What a register with ports that set and clear each bit takes.
 use Rattle.std.proofs.Common.{◌≡◌, ℕ, true, false, cond, refl}
-use Rattle.circuit.specs.Next.{Asked}
+use Rattle.circuit.specs.Next.{RegisterInputs}
 use Rattle.circuit.specs.Valid.{ports_of}
 use Rattle.circuit.specs.declared.register.RegKind.{RegKind}
 use Rattle.circuit.specs.declared.register.RegKind.TheVariants as kind
@@ -26,7 +26,7 @@ no_whole kind.Dlatch h = cc
 no_whole kind.Adlatch h = cc
 no_whole kind.Dlatchsr h = (refl, refl)
 
-pub input_or_own_number : (k : RegKind) (s : Source) (a : Asked) (own : ℕ) → (ports_of k).bits ≡ true → has_source (ports_of k) s ≡ true → cond (is_input s) a.input own ≡ number_of s a own
+pub input_or_own_number : (k : RegKind) (s : Source) (a : RegisterInputs) (own : ℕ) → (ports_of k).bits ≡ true → has_source (ports_of k) s ≡ true → cond (is_input s) a.input own ≡ number_of s a own
 input_or_own_number k source.Own a own bits there = refl
 input_or_own_number k source.Input a own bits there = refl
 input_or_own_number k source.Load a own bits there = let no : (ports_of k).load ≡ false = (no_whole k bits).0 in cc

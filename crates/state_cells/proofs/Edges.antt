@@ -2,7 +2,7 @@
 use Rattle.std.proofs.Common.{◌≡◌, ℕ, suc, ◌+◌, ◌/◌, ◌%◌, ◌^◌, ◌<◌, List, [], ◌∷◌, length, get_or, drop, Bool, false, not, ◌&&◌, ◌||◌, refl, sym, ◌∙◌, ap, subst, add-one, eqb, cond}
 use Rattle.std.proofs.lemmas.List.{drop_more}
 use Rattle.circuit.specs.Next.{is_active_at}
-use Rattle.circuit.specs.Run.{some_edge}
+use Rattle.circuit.specs.Shown.{some_edge}
 use Rattle.std.specs.Int.{bit_at}
 use Rattle.circuit.specs.Signal.{Digits, sig_number}
 use Rattle.circuit.specs.declared.netlist.Piece.{Piece}

@@ -3,7 +3,8 @@ use Rattle.std.specs.Prelude.{◌≡◌, ◌≤◌, ◌&&◌, List, length, Bool
 use Rattle.sim_base.specs.BitValue.{BitValue}
 use Rattle.circuit.specs.Signal.{sig_width}
 use Rattle.circuit.specs.Valid.{widest}
-use Rattle.circuit.specs.Run.{Round, fails, is_triggered}
+use Rattle.circuit.specs.Rounds.{Round}
+use Rattle.circuit.specs.Shown.{fails, is_triggered}
 use Rattle.circuit.specs.declared.diagnostic.Diag.{Diag}
 use Rattle.circuit.specs.declared.diagnostic.Trigger.{Trigger}
 use Rattle.circuit.specs.declared.store.Store.{Store}

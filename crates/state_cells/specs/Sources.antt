@@ -1,19 +1,19 @@
 -- Where the next value of a register comes from.
 use Rattle.std.specs.Prelude.{ℕ, Bool, true, false, if◌then◌else◌}
-use Rattle.circuit.specs.Next.{Asked, bit_by_bit}
+use Rattle.circuit.specs.Next.{RegisterInputs, bit_by_bit}
 use Rattle.circuit.specs.Valid.{Ports}
 use Rattle.state_cells.specs.declared.source.Source.{Source}
 use Rattle.state_cells.specs.declared.source.Source.TheVariants as source
 
 -- the number that is taken, where the register has its own
-abbrev pub number_of : Source → Asked → ℕ → ℕ
+abbrev pub number_of : Source → RegisterInputs → ℕ → ℕ
 number_of source.Own a own = own
 number_of source.Input a own = a.input
 number_of source.Load a own = a.load
 number_of source.Value a own = a.value
 
 -- where a register has ports that set and clear a bit, these come first
-abbrev pub under_bits : Bool → ℕ → Asked → ℕ → ℕ
+abbrev pub under_bits : Bool → ℕ → RegisterInputs → ℕ → ℕ
 under_bits bits width a rest = if bits then bit_by_bit width a rest else rest
 
 -- a kind with these ports has the one that the source names

@@ -1,6 +1,6 @@
 //! Diagnostics.
 ghost use Rattle.std.specs.Prelude.{◌≡◌, ◌≤◌, ◌==◌, ◌&&◌, not, if◌then◌else◌};
-ghost use Rattle.circuit.specs.Run.{fails, is_triggered, some_edge};
+ghost use Rattle.circuit.specs.Shown.{fails, is_triggered, some_edge};
 ghost use Rattle.circuit.specs.Signal.{sig_width};
 ghost use Rattle.signal_words.specs.Values.{AreInside, digits_in, numbers};
 ghost use Rattle.state_cells.specs.Diagnostics.{fires_in, IsDiagnosticOf, IsTriggerOf, round_of};

@@ -1,7 +1,8 @@
 //! Laws of registers and diagnostics.
 ghost use Rattle.std.specs.Prelude.{◌≡◌, ◌-◌, ℕ, List, true, Some, None, length, slice_get};
 ghost use Rattle.std.specs.List.{list_any};
-ghost use Rattle.circuit.specs.Run.{fires_by, Round};
+ghost use Rattle.circuit.specs.Rounds.{Round};
+ghost use Rattle.circuit.specs.Shown.{fires_by};
 ghost use Rattle.circuit.specs.Valid.{is_valid};
 ghost use Rattle.circuit.specs.declared.diagnostic.Diag.{Diag};
 ghost use Rattle.circuit.specs.declared.diagnostic.Trigger.{Trigger};

@@ -2,7 +2,7 @@
 ghost use Rattle.std.specs.Prelude.{◌≡◌, ℕ, ◌+◌, ◌-◌, ◌/◌, ◌%◌, ◌^◌, ◌<◌, ◌≤◌, ◌==◌, not, true, if◌then◌else◌};
 ghost use Rattle.std.specs.Int.{bit_at};
 ghost use Rattle.sim_base.specs.BitValue.{bit_value};
-ghost use Rattle.circuit.specs.Next.{asked, bit_by_bit, next_number};
+ghost use Rattle.circuit.specs.Next.{register_inputs, bit_by_bit, next_number};
 ghost use Rattle.circuit.specs.Signal.{Digits, sig_number, sig_value, sig_width};
 ghost use Rattle.circuit.specs.Valid.{ports_of, widest};
 ghost use Rattle.signal_words.specs.Values.{AreInside, digits_in};
@@ -49,7 +49,7 @@ fn put_whole(reg: &Reg, source: Source, nets: &[Bits], into: &mut Bits) -> bool
     requires d { AreInside nets.now reg.now.d }
     requires ad { AreInside nets.now reg.now.ad }
     requires width { into.old.width ≡ reg.now.width }
-    ensures value { (before : Digits) → into.new ≡ bit_value reg.now.width (number_of source (asked before (digits_in nets.now) reg.now) into.old.number) }
+    ensures value { (before : Digits) → into.new ≡ bit_value reg.now.width (number_of source (register_inputs before (digits_in nets.now) reg.now) into.old.number) }
     ensures changed { result ≡ not (into.new.number == into.old.number) }
 {
     match source {
@@ -125,7 +125,7 @@ fn put_under_bits(reg: &Reg, from_input: bool, nets: &[Bits], into: &mut Bits) -
     requires clr_small { sig_width reg.now.clr ≤ widest }
     requires small { reg.now.width ≤ widest }
     requires width { into.old.width ≡ reg.now.width }
-    ensures value { (before : Digits) → into.new ≡ bit_value reg.now.width (bit_by_bit reg.now.width (asked before (digits_in nets.now) reg.now)
+    ensures value { (before : Digits) → into.new ≡ bit_value reg.now.width (bit_by_bit reg.now.width (register_inputs before (digits_in nets.now) reg.now)
         (if from_input then sig_number (digits_in nets.now) reg.now.d else into.old.number)) }
     ensures changed { result ≡ not (into.new.number == into.old.number) }
 {

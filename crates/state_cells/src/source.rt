@@ -1,6 +1,6 @@
 //! Where the next value of a register comes from.
 ghost use Rattle.std.specs.Prelude.{◌≡◌, ℕ, ◌≤◌, true, if◌then◌else◌};
-ghost use Rattle.circuit.specs.Next.{Asked, asked, has_edge, is_active, next_number};
+ghost use Rattle.circuit.specs.Next.{RegisterInputs, register_inputs, has_edge, is_active, next_number};
 ghost use Rattle.circuit.specs.Signal.{sig_width};
 ghost use Rattle.circuit.specs.Valid.{Ports, ports_of};
 ghost use Rattle.signal_words.specs.Values.{AreInside, digits_in};
@@ -70,7 +70,7 @@ fn loaded(reg: &Reg, now: &[Bits]) -> bool
 
 /// The input where this holds.
 fn input_where(holds: bool) -> Source
-    ensures number { (a : Asked) (own : ℕ) → number_of result a own ≡ (if holds then a.input else own) }
+    ensures number { (a : RegisterInputs) (own : ℕ) → number_of result a own ≡ (if holds then a.input else own) }
     ensures there { (ports : Ports) → ports.d ≡ true → has_source ports result ≡ true }
 {
     if holds { Source::Input } else { Source::Own }
@@ -78,7 +78,7 @@ fn input_where(holds: bool) -> Source
 
 /// The value of the reset where that is active, and else another source.
 fn reset_or(active: bool, other: Source) -> Source
-    ensures number { (a : Asked) (own : ℕ) → number_of result a own ≡ (if active then a.value else number_of other a own) }
+    ensures number { (a : RegisterInputs) (own : ℕ) → number_of result a own ≡ (if active then a.value else number_of other a own) }
     ensures there { (ports : Ports) → ports.reset ≡ true → has_source ports other ≡ true → has_source ports result ≡ true }
 {
     if active { Source::Value } else { other }
@@ -86,7 +86,7 @@ fn reset_or(active: bool, other: Source) -> Source
 
 /// The load where it is active, and else another source.
 fn load_or(active: bool, other: Source) -> Source
-    ensures number { (a : Asked) (own : ℕ) → number_of result a own ≡ (if active then a.load else number_of other a own) }
+    ensures number { (a : RegisterInputs) (own : ℕ) → number_of result a own ≡ (if active then a.load else number_of other a own) }
     ensures there { (ports : Ports) → ports.load ≡ true → has_source ports other ≡ true → has_source ports result ≡ true }
 {
     if active { Source::Load } else { other }
@@ -96,7 +96,7 @@ fn load_or(active: bool, other: Source) -> Source
 pub(crate) fn source_of(reg: &Reg, before: &[Bits], now: &[Bits]) -> Source
     requires { IsRegisterOf before.now now.now reg.now }
     ensures there { has_source (ports_of reg.now.kind) result ≡ true }
-    ensures number { (own : ℕ) → let a = asked (digits_in before.now) (digits_in now.now) reg.now in
+    ensures number { (own : ℕ) → let a = register_inputs (digits_in before.now) (digits_in now.now) reg.now in
         under_bits (ports_of reg.now.kind).bits reg.now.width a (number_of result a own) ≡ next_number (digits_in before.now) (digits_in now.now) reg.now own }
 {
     match reg.kind {

@@ -2,7 +2,7 @@
 ghost use Rattle.std.specs.Prelude.{◌≡◌, ◌==◌, ◌&&◌, length, nat_lt, bytes_eq, min, sum_by};
 ghost use Rattle.std.specs.List.{list_all, list_any, count_by};
 ghost use Rattle.std.specs.Str.{is_utf8};
-ghost use Rattle.circuit.specs.Run.{slots_of};
+ghost use Rattle.circuit.specs.Shown.{slots_of};
 ghost use Rattle.circuit.specs.Valid.{kind_fits, text_fits, item_fits, slots_run, names_rise, stands_before, scope_fits, names_differ, is_node_of, is_shown_once, numbers_differ, inputs_fit};
 
 use crate::item::{Item, ItemKind, Scope};

@@ -3,7 +3,7 @@ ghost use Rattle.std.specs.Prelude.{◌≡◌, ◌<◌, IfOk};
 ghost use Rattle.std.specs.Arc.{arc_value};
 ghost use Rattle.eval_commit.specs.Rounds.{IsPlanOf};
 
-use crate::machine::{inputs_of, number_of};
+use crate::machine::{cell_inputs, number_of};
 use circuit::Circuit;
 use driver_check::{Plan, order};
 use eval_commit::{Machine, Settled};
@@ -83,7 +83,7 @@ fn settle_under<L: Ledger>(
     if numbers.len() != circuit.inputs.len() {
         return Err(Fail::from("a number for each input is wanted"));
     }
-    let inputs = inputs_of(alloc, circuit, numbers)?;
+    let inputs = cell_inputs(alloc, circuit, numbers)?;
     Ok(machine.settle(inputs.as_slice(), steps))
 }
 

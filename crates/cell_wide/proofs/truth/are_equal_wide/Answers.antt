@@ -1,6 +1,6 @@
 use Rattle.std.proofs.Common.{◌<◌, ◌≤◌, ◌^◌, ◌&&◌, ◌∙◌, ap, subst, arith}
 use Rattle.std.specs.Prelude.{◌==◌}
-use Rattle.circuit.specs.Output.{modulo, inputs_of, left}
+use Rattle.circuit.specs.Output.{modulo, cell_inputs, left}
 use Rattle.circuit.specs.Signal.{sig_number, sig_width}
 use Rattle.signal_words.specs.Values.{digits_in}
 use Rattle.cell_wide.specs.Words.{low_of_operand}
@@ -18,5 +18,5 @@ returns c =
     let lb : sig_width cell.b ≤ m = omega (arith, c.max-width.ensures, c.sig_width-2.ensures.value ∙ ap sig_width c.as_slice-b.ensures) in
     c.same.ensures
     ∙ ap (λ x. (x == low_of_operand c.operands-one.result.1.low c.operands-one.result.1.left c.operands-one.result.1.high.ones m)) (c.operands-one.ensures.one m)
-    ∙ ap (λ x. (modulo m (left (inputs_of digits cell)) == x)) (c.operands-one.ensures.other m)
+    ∙ ap (λ x. (modulo m (left (cell_inputs digits cell)) == x)) (c.operands-one.ensures.other m)
     ∙ operands_equal (cell.a_signed && cell.b_signed) (sig_width cell.a) (sig_width cell.b) m (sig_number digits cell.a) (sig_number digits cell.b) a b la lb

@@ -1,5 +1,5 @@
 use Rattle.std.proofs.Common.{◌≡◌, ◌<◌, ◌^◌, ◌∙◌, ◌&&◌, ap, refl, sym, subst}
-use Rattle.circuit.specs.Output.{formula, inputs_of, modulo, output}
+use Rattle.circuit.specs.Output.{formula, cell_inputs, modulo, output}
 use Rattle.circuit.specs.Signal.{sig_value}
 use Rattle.signal_words.specs.Values.{digits_in}
 use Rattle.signal_words.proofs.Told.{same_written}
@@ -15,7 +15,7 @@ number : (c : goal.After-put_only_word) → c.digit.result ≡ output (digits_in
 number c =
     let digits = digits_in c.args.nets.now in
     let cell = c.args.cell.now in
-    let i = inputs_of digits cell in
+    let i = cell_inputs digits cell in
     let flag = cell.a_signed && cell.b_signed in
     let signed = c.are_signed.result in
     let w = c.width-width.result in

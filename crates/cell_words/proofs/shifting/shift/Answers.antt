@@ -1,6 +1,6 @@
 use Rattle.std.proofs.Common.{◌≡◌, ◌%◌, ◌^◌, ◌<◌, ◌≤◌, ◌∙◌, ap, refl, false, sym, subst, arith, lit<}
 use Rattle.std.proofs.Math.Nat.{pow-le-pow_right}
-use Rattle.circuit.specs.Output.{formula, inputs_of, modulo, output}
+use Rattle.circuit.specs.Output.{formula, cell_inputs, modulo, output}
 use Rattle.circuit.specs.Signal.{sig_value}
 use Rattle.signal_words.specs.Values.{digits_in, IsWordOf}
 use Rattle.signal_words.proofs.Modulo.{modulo_lower}
@@ -9,11 +9,11 @@ use Rattle.cell_words.specs.Shifts.{is_below_zero, IsPlain}
 use Rattle.cell_words.proofs.Sources.{unsigned_amount}
 use Rattle.cell_words.proofs.shifting.shift.Goals as goal
 
-plain : (c : goal.After-put_only_word) → IsPlain (record (inputs_of (digits_in c.args.nets.now) c.args.cell.now) { b_signed = false }) c.word_of_value-a.result.number c.word_of_value-b.result.number
+plain : (c : goal.After-put_only_word) → IsPlain (record (cell_inputs (digits_in c.args.nets.now) c.args.cell.now) { b_signed = false }) c.word_of_value-a.result.number c.word_of_value-b.result.number
 plain c =
     let cell = c.args.cell.now in
     let digits = digits_in c.args.nets.now in
-    let i = inputs_of digits cell in
+    let i = cell_inputs digits cell in
     let aw = c.word_of_value-a.result.width in
     let an = c.word_of_value-a.result.number in
     let a : IsWordOf c.args.nets.now cell.a aw an = c.word_of_value-a.ensures.word c.args.nets.now cell.a (c.in-Some-Some.ensures ∙ ap (sig_value digits) c.as_slice.ensures) in
@@ -31,7 +31,7 @@ plain c =
 number : (c : goal.After-put_only_word) → c.low_digits.result ≡ output (digits_in c.args.nets.now) c.args.cell.now
 number c =
     let cell = c.args.cell.now in
-    let i = inputs_of (digits_in c.args.nets.now) cell in
+    let i = cell_inputs (digits_in c.args.nets.now) cell in
     let j = record i { b_signed = false } in
     let wide : c.width-width.result ≡ cell.width = c.width-width.ensures.value ∙ c.requires.ready.into_width in
     c.low_digits.ensures ∙ ap (λ w. c.shifted_plainly-number.result % 2 ^ w) wide

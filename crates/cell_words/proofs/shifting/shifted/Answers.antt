@@ -1,6 +1,6 @@
 use Rattle.std.proofs.Common.{◌≡◌, ◌%◌, ◌^◌, ◌<◌, ◌≤◌, ◌∙◌, ap, false, sym, subst, arith, lit<}
 use Rattle.std.proofs.Math.Nat.{pow-le-pow_right}
-use Rattle.circuit.specs.Output.{formula, inputs_of, output}
+use Rattle.circuit.specs.Output.{formula, cell_inputs, output}
 use Rattle.signal_words.specs.Values.{digits_in, IsWordOf}
 use Rattle.signal_words.proofs.Modulo.{modulo_lower}
 use Rattle.signal_words.proofs.Told.{same_written}
@@ -14,7 +14,7 @@ positive c = elim c.if-is_below_zero.branch [
   | else-is_below_zero w ↦ (sym c.is_below_zero.ensures ∙ w.if-is_below_zero.false, sym w.is_below_zero-below.ensures ∙ sym w.below-is ∙ c.if-not-below.true)
 ]
 
-plain : (c : goal.After-put_low_word) → IsPlain (inputs_of (digits_in c.args.nets.now) c.args.cell.now) c.in-Some.a.number c.in-Some-one_word.b.number
+plain : (c : goal.After-put_low_word) → IsPlain (cell_inputs (digits_in c.args.nets.now) c.args.cell.now) c.in-Some.a.number c.in-Some-one_word.b.number
 plain c =
     let cell = c.args.cell.now in
     let aw = c.in-Some.a.width in
@@ -23,7 +23,7 @@ plain c =
     let bn = c.in-Some-one_word.b.number in
     let a : IsWordOf c.args.nets.now cell.a aw an = subst (λ sig. IsWordOf c.args.nets.now sig aw an) c.as_slice.ensures c.in-Some.ensures in
     let b : IsWordOf c.args.nets.now cell.b bw bn = subst (λ sig. IsWordOf c.args.nets.now sig bw bn) c.as_slice-in-Some.ensures c.in-Some-one_word.ensures in
-    let i = inputs_of (digits_in c.args.nets.now) cell in
+    let i = cell_inputs (digits_in c.args.nets.now) cell in
     let p : 2 ^ aw ≤ 2 ^ 64 = pow-le-pow_right {n = 2} (lit< tt) {i = aw} {j = 64} a.small in
     record {
       number_is = sym a.number_is;
@@ -37,7 +37,7 @@ plain c =
 pub returns-then-not-below : goal.returns-then-not-below
 returns-then-not-below c =
     let cell = c.args.cell.now in
-    let i = inputs_of (digits_in c.args.nets.now) cell in
+    let i = cell_inputs (digits_in c.args.nets.now) cell in
     let number : c.shifted_plainly-number.result % 2 ^ c.args.into.now.width ≡ output (digits_in c.args.nets.now) cell =
     ap (λ w. c.shifted_plainly-number.result % 2 ^ w) c.requires.ready.into_width ∙ ap (λ n. n % 2 ^ cell.width) (c.shifted_plainly-number.ensures i (plain c)) ∙ modulo_lower cell.width 64 (formula cell.op i) c.if-cell-le64.true in
     same_written _ _ _ _ _ number c.put_low_word.ensures

@@ -2,7 +2,7 @@ use Rattle.std.proofs.Common.{refl}
 use Rattle.circuit.specs.Signal.{gathered, sig_number}
 use Rattle.circuit.specs.Valuation.{digit_within, numbers_from}
 use Rattle.circuit.specs.Next.{next_numbers, next_mems}
-use Rattle.circuit.specs.Run.{settled_within, standing_after, rounds_within}
+use Rattle.circuit.specs.Rounds.{settled_within, standing_after, rounds_within}
 use Rattle.circuit.proofs.worked.worked_rounds.Goals as goal
 
 pub returns-clause-derived : goal.returns-clause-derived

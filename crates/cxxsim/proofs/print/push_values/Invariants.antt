@@ -1,6 +1,6 @@
 use Rattle.std.proofs.Common.{◌≡◌, ◌++◌, take}
 use Rattle.std.specs.List.{flat_map}
-use Rattle.circuit.specs.Run.{item_number}
+use Rattle.circuit.specs.Shown.{item_number}
 use Rattle.cxxsim.specs.TraceText.{item_width, value_text}
 use Rattle.cxxsim.proofs.print.push_values.Given as goal
 

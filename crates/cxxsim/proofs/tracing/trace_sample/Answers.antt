@@ -1,5 +1,5 @@
 use Rattle.std.proofs.Common.{◌≡◌, None, Some, suc, refl, sym}
-use Rattle.circuit.specs.Run.{standing_after}
+use Rattle.circuit.specs.Rounds.{standing_after}
 use Rattle.flat_run.specs.Run.{run_under}
 use Rattle.cxxsim.proofs.Steps.{goes_on}
 use Rattle.cxxsim.proofs.tracing.trace_sample.Goals as goal

@@ -1,6 +1,6 @@
 use Rattle.std.proofs.Common.{◌+◌, ◌++◌, ◌∙◌, ap, arith, Ok, sym, add-one}
 use Rattle.std.specs.Prelude.{is_some}
-use Rattle.circuit.specs.Run.{standing_after}
+use Rattle.circuit.specs.Rounds.{standing_after}
 use Rattle.flat_run.specs.Run.{run_under}
 use Rattle.cxxsim.specs.TraceText.{header, sample_lines}
 use Rattle.cxxsim.proofs.Begun.{begun, begun_then, left_whole}

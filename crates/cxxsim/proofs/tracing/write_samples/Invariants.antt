@@ -1,5 +1,5 @@
 use Rattle.std.proofs.Common.{◌≡◌, ◌++◌, ◌≤◌, ◌-◌, Some, length}
-use Rattle.circuit.specs.Run.{standing_after}
+use Rattle.circuit.specs.Rounds.{standing_after}
 use Rattle.flat_rounds.specs.Fits.{IsStandingOf}
 use Rattle.flat_run.specs.Run.{run_under}
 use Rattle.cxxsim.specs.Trace.{HasLeft}

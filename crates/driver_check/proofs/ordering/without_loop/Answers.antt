@@ -14,7 +14,7 @@ returns c =
       record {
         once = is.once;
         inside = drives_inside circuit c.requires.valid;
-        free = all_free circuit c.requires.valid s.parts.nodes.items s.parts.ports.items is.parts s.graph is.graph s.search.marks.items s.search.order.items is.sorted (λ x b.
+        acyclic = all_free circuit c.requires.valid s.parts.nodes.items s.parts.ports.items is.parts s.graph is.graph s.search.marks.items s.search.order.items is.sorted (λ x b.
             elim (is.sorted.either (number_of circuit.nets x) (bit_in_graph circuit c.requires.valid s.parts.nodes.items s.parts.ports.items is.parts s.graph is.graph x b)) [
               | inl done ↦ done
               | inr stuck ↦ absurd (let low = bit_below circuit.nets x b in c.first_stuck-first.ensures.first.below (number_of circuit.nets x) (omega (arith, low, is.numbers.total, c.if-first-sorting.false)) stuck)

@@ -1,5 +1,5 @@
 use Rattle.std.proofs.Common.{◌<◌, arith}
-use Rattle.circuit.specs.Run.{run_length}
+use Rattle.circuit.specs.Rounds.{run_length}
 use Rattle.circuit.proofs.Length.{settled_below}
 use Rattle.hall_core.specs.Facts.{facts_of}
 use Rattle.hall_core.proofs.Progress.{never_passes}

@@ -1,6 +1,6 @@
 use Rattle.std.proofs.Common.{◌≡◌, ℕ, List, Bool, true, false, not, ◌&&◌, ◌||◌, refl, sym, ◌∙◌, ap}
 use Rattle.circuit.specs.Next.{next_reads, next_rows, next_stored}
-use Rattle.circuit.specs.Run.{parts}
+use Rattle.circuit.specs.Rounds.{parts}
 use Rattle.circuit.specs.State.{Stored}
 use Rattle.sim_base.specs.BitValue.{BitValue}
 use Rattle.signal_words.specs.Values.{digits_in, numbers}

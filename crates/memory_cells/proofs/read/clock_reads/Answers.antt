@@ -1,5 +1,5 @@
 use Rattle.std.proofs.Common.{List, length, get_or, refl, sym, ◌∙◌, ap, arith}
-use Rattle.circuit.specs.Run.{parts}
+use Rattle.circuit.specs.Rounds.{parts}
 use Rattle.circuit.specs.declared.memory.ReadPort.{ReadPort}
 use Rattle.signal_words.specs.Values.{digits_in, numbers}
 use Rattle.memory_cells.proofs.Told.{told_none}

@@ -1,5 +1,5 @@
 use Rattle.std.proofs.Common.{List, length, get_or, refl, ◌∙◌, ap, arith}
-use Rattle.circuit.specs.Run.{parts}
+use Rattle.circuit.specs.Rounds.{parts}
 use Rattle.circuit.specs.declared.memory.WritePort.{WritePort}
 use Rattle.signal_words.specs.Values.{digits_in}
 use Rattle.memory_cells.specs.Ports.{renewed_rows}

@@ -1,7 +1,7 @@
 use Rattle.std.proofs.Common.{◌+◌, ◌/◌, ◌^◌, ◌∙◌, ◌||◌, Bool, drop, length, ap, sym, arith}
 use Rattle.std.proofs.lemmas.Nat.{shr-shr}
 use Rattle.std.proofs.Math.ListN.{drop_of_length-le}
-use Rattle.circuit.specs.Run.{some_edge}
+use Rattle.circuit.specs.Shown.{some_edge}
 use Rattle.sim_base.specs.BitValue.{BitValue}
 use Rattle.signal_words.specs.Values.{digits_in}
 use Rattle.state_cells.proofs.Edges.{edge_step, no_more_edge}

@@ -1,5 +1,5 @@
 use Rattle.std.proofs.Common.{◌≡◌, ◌/◌, ◌^◌, drop}
-use Rattle.circuit.specs.Run.{some_edge}
+use Rattle.circuit.specs.Shown.{some_edge}
 use Rattle.circuit.specs.Signal.{sig_number}
 use Rattle.signal_words.specs.Values.{digits_in}
 use Rattle.state_cells.proofs.diagnostic.is_triggered.Given as goal

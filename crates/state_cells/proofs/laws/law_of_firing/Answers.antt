@@ -1,5 +1,5 @@
 use Rattle.std.proofs.Common.{[], sym, ◌∙◌, ap, Option}
-use Rattle.circuit.specs.Run.{fails, fires_by}
+use Rattle.circuit.specs.Shown.{fails, fires_by}
 use Rattle.circuit.specs.declared.diagnostic.Trigger.{Trigger}
 use Rattle.circuit.proofs.Rounds.{last_nets}
 use Rattle.state_cells.specs.Diagnostics.{fires_where}

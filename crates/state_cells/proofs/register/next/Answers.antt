@@ -1,5 +1,5 @@
 use Rattle.std.proofs.Common.{◌≡◌, ◌∙◌, List, true, false, if◌then◌else◌, ap, sym}
-use Rattle.circuit.specs.Next.{asked, bit_by_bit, next_number}
+use Rattle.circuit.specs.Next.{register_inputs, bit_by_bit, next_number}
 use Rattle.circuit.specs.Signal.{sig_number}
 use Rattle.circuit.specs.Valid.{ports_of}
 use Rattle.sim_base.specs.BitValue.{BitValue, bit_value}
@@ -13,7 +13,7 @@ returns-then-has_bits-clause-value c =
     let reg = c.args.reg.now in
     let own = c.args.into.now.number in
     let bits : (ports_of reg.kind).bits ≡ true = sym c.has_bits.ensures ∙ c.if-has_bits.true in
-    let a = asked (digits_in c.as_slice.result.now) (digits_in c.as_slice-nets.result.now) reg in
+    let a = register_inputs (digits_in c.as_slice.result.now) (digits_in c.as_slice-nets.result.now) reg in
     let number = number_of c.source_of-source.result a own in
     c.put_under_bits.ensures.value (digits_in c.as_slice.result.now)
     ∙ ap (λ n. bit_value reg.width n)
@@ -29,7 +29,7 @@ returns-else-has_bits-clause-value c =
     let reg = c.args.reg.now in
     let own = c.args.into.now.number in
     let bits : (ports_of reg.kind).bits ≡ false = sym c.has_bits.ensures ∙ c.if-has_bits.false in
-    let a = asked (digits_in c.as_slice.result.now) (digits_in c.as_slice-nets.result.now) reg in
+    let a = register_inputs (digits_in c.as_slice.result.now) (digits_in c.as_slice-nets.result.now) reg in
     let number = number_of c.source_of-source.result a own in
     c.put_whole.ensures.value (digits_in c.as_slice.result.now)
     ∙ ap (λ n. bit_value reg.width n)

@@ -1,5 +1,5 @@
 use Rattle.std.proofs.Common.{◌≡◌, ◌-◌, ◌/◌, ◌^◌, ◌<◌, ◌≤◌, cond}
-use Rattle.circuit.specs.Next.{asked, bit_by_bit}
+use Rattle.circuit.specs.Next.{register_inputs, bit_by_bit}
 use Rattle.circuit.specs.Signal.{sig_number}
 use Rattle.signal_words.specs.Values.{digits_in}
 use Rattle.state_cells.proofs.Written.{Written}
@@ -13,7 +13,7 @@ invariant-loop-at l = record {
   input : l.input.number ≡ sig_number (digits_in l.nets) l.reg.d / 2 ^ l.at;
   set : l.set.number ≡ sig_number (digits_in l.nets) l.reg.set / 2 ^ l.at;
   clr : l.clr.number ≡ sig_number (digits_in l.nets) l.reg.clr / 2 ^ l.at;
-  written : Written (bit_by_bit l.fn.reg.width (asked (digits_in l.nets) (digits_in l.nets) l.reg) (cond l.from_input (sig_number (digits_in l.nets) l.reg.d) l.fn.into.number)) l.fn.into.number l.at l.into.number l.changed;
+  written : Written (bit_by_bit l.fn.reg.width (register_inputs (digits_in l.nets) (digits_in l.nets) l.reg) (cond l.from_input (sig_number (digits_in l.nets) l.reg.d) l.fn.into.number)) l.fn.into.number l.at l.into.number l.changed;
 }
 
 abbrev pub decreases-loop-at : goal.decreases-loop-at

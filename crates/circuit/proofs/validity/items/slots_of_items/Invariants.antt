@@ -1,5 +1,5 @@
 use Rattle.std.proofs.Common.{◌≡◌, ◌+◌, ◌≤◌, min, sum_by, drop}
-use Rattle.circuit.specs.Run.{slots_of}
+use Rattle.circuit.specs.Shown.{slots_of}
 use Rattle.circuit.proofs.validity.items.slots_of_items.Given as goal
 
 abbrev pub invariant-loop-item : goal.invariant-loop-item

@@ -1,5 +1,5 @@
 use Rattle.std.proofs.Common.{◌∙◌, [], ap, replicate, sym, subst}
-use Rattle.circuit.specs.Run.{start, start_state}
+use Rattle.circuit.specs.Rounds.{start, start_state}
 use Rattle.circuit.specs.Valuation.{valuation}
 use Rattle.flat_rounds.specs.Fits.{AreInputs}
 use Rattle.flat_rounds.proofs.Pass.{zeros_inputs, zeros_mapped}

@@ -1,5 +1,5 @@
 use Rattle.std.proofs.Common.{◌≡◌, ◌+◌, ◌-◌, ◌∙◌, ap, sym, suc, refl, arith}
-use Rattle.circuit.specs.Run.{settled_within}
+use Rattle.circuit.specs.Rounds.{settled_within}
 use Rattle.flat_rounds.proofs.Settling.{settles, goes_on, settled_never}
 use Rattle.flat_rounds.proofs.rounds.Rounds.sample.Goals as goal
 

@@ -1,5 +1,5 @@
 use Rattle.std.proofs.Common.{◌≡◌, ◌-◌}
-use Rattle.circuit.specs.Run.{settled, settled_within}
+use Rattle.circuit.specs.Rounds.{settled, settled_within}
 use Rattle.flat_rounds.specs.Fits.{IsStandingOf}
 use Rattle.flat_rounds.proofs.rounds.Rounds.sample.Given as goal
 

@@ -1,6 +1,6 @@
 use Rattle.std.proofs.Common.{◌≡◌, ◌<◌, ◌+◌, ◌-◌, ℕ, Bool, true, false, arith, ◌∙◌, sym, ap, refl, min, inl, inr, if◌then◌else◌, Some}
 use Rattle.std.proofs.lemmas.Bool.{cases_Bool, false≢true}
-use Rattle.circuit.specs.Run.{Run, run_length}
+use Rattle.circuit.specs.Rounds.{Run, run_length}
 use Rattle.flat_run.specs.Run.{run_under}
 use Rattle.flat_run.proofs.Steps.{reached}
 use Rattle.flat_run.proofs.progress.Progress.reach.Goals.{then-loop-self-test+else-not-self, else-loop-self-test}

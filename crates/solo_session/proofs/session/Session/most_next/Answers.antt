@@ -1,5 +1,5 @@
 use Rattle.std.proofs.Common.{◌≡◌, ◌-◌, ◌+◌, ℕ, ap, sym, refl, ◌∙◌, min, subst}
-use Rattle.circuit.specs.Run.{run_length}
+use Rattle.circuit.specs.Rounds.{run_length}
 use Rattle.flat_run.specs.Run.{run_of}
 use Rattle.hall_core.specs.Facts.{facts_of}
 use Rattle.hall_core.specs.Replay.{replay}

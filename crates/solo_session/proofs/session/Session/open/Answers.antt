@@ -1,7 +1,7 @@
 use Rattle.std.proofs.Common.{◌≡◌, ◌≤◌, ◌++◌, ◌∷◌, List, ℕ, [], false, min, ◌∙◌, ap, arith}
 use Rattle.std.proofs.lemmas.Bool.Decides.{nat_tests}
 use Rattle.std.proofs.Math.Nat.{min-le_right}
-use Rattle.circuit.specs.Run.{run_length}
+use Rattle.circuit.specs.Rounds.{run_length}
 use Rattle.flat_run.specs.Run.{run_of}
 use Rattle.hall_core.specs.declared.entry.Entry.{Entry}
 use Rattle.hall_core.specs.declared.entry.Entry.TheVariants as entry

@@ -19,45 +19,45 @@ unfoldable pub all_below : (ℕ → Bool) → ℕ → Bool
 all_below p zero = true
 all_below p (suc n) = p n && all_below p n
 
-unfoldable pub sig_free : Test → List Piece → Bool
-sig_free free [] = true
-sig_free free (piece.Const v ∷ ps) = sig_free free ps
-sig_free free (piece.Part n at width ∷ ps) = all_below (λ j. free n (at + j)) width && sig_free free ps
+unfoldable pub sig_acyclic : Test → List Piece → Bool
+sig_acyclic acyclic [] = true
+sig_acyclic acyclic (piece.Const v ∷ ps) = sig_acyclic acyclic ps
+sig_acyclic acyclic (piece.Part n at width ∷ ps) = all_below (λ j. acyclic n (at + j)) width && sig_acyclic acyclic ps
 
-abbrev pub cell_free : Test → Option Cell → Bool
-cell_free free None = true
-cell_free free (Some c) = sig_free free c.a && (sig_free free c.b && sig_free free c.s)
+abbrev pub cell_acyclic : Test → Option Cell → Bool
+cell_acyclic acyclic None = true
+cell_acyclic acyclic (Some c) = sig_acyclic acyclic c.a && (sig_acyclic acyclic c.b && sig_acyclic acyclic c.s)
 
-abbrev pub port_free : Test → Option ReadPort → Bool
-port_free free None = true
-port_free free (Some p) = p.clocked || sig_free free p.addr
+abbrev pub port_acyclic : Test → Option ReadPort → Bool
+port_acyclic acyclic None = true
+port_acyclic acyclic (Some p) = p.clocked || sig_acyclic acyclic p.addr
 
-abbrev pub read_free : Test → Option Mem → ℕ → Bool
-read_free free None n = true
-read_free free (Some m) n = port_free free (slice_get m.reads n)
+abbrev pub read_acyclic : Test → Option Mem → ℕ → Bool
+read_acyclic acyclic None n = true
+read_acyclic acyclic (Some m) n = port_acyclic acyclic (slice_get m.reads n)
 
 -- a constant, an input, a register and a read port with a clock depend on nothing, an output bit of a cell on every bit
 -- of its inputs, a bit of a read port without a clock on every bit of its address
-abbrev pub by_free : Circuit → Test → By → ℕ → Bool
-by_free c free (by.Const v) i = true
-by_free c free (by.Input n at) i = true
-by_free c free (by.Wire n at) i = free n (at + i)
-by_free c free (by.Cell n at) i = cell_free free (slice_get c.cells n)
-by_free c free (by.Reg n at) i = true
-by_free c free (by.Read m n at) i = read_free free (slice_get c.mems m) n
+abbrev pub by_acyclic : Circuit → Test → By → ℕ → Bool
+by_acyclic c acyclic (by.Const v) i = true
+by_acyclic c acyclic (by.Input n at) i = true
+by_acyclic c acyclic (by.Wire n at) i = acyclic n (at + i)
+by_acyclic c acyclic (by.Cell n at) i = cell_acyclic acyclic (slice_get c.cells n)
+by_acyclic c acyclic (by.Reg n at) i = true
+by_acyclic c acyclic (by.Read m n at) i = read_acyclic acyclic (slice_get c.mems m) n
 
-abbrev pub drive_free : Circuit → Test → ℕ → Option Drive → Bool
-drive_free c free bit None = true
-drive_free c free bit (Some d) = by_free c free d.by (bit - d.at)
+abbrev pub drive_acyclic : Circuit → Test → ℕ → Option Drive → Bool
+drive_acyclic c acyclic bit None = true
+drive_acyclic c acyclic bit (Some d) = by_acyclic c acyclic d.by (bit - d.at)
 
--- all that the bit depends on is free in one step less
-unfoldable pub free_within : Circuit → ℕ → Test
-free_within c zero net bit = false
-free_within c (suc s) net bit = drive_free c (free_within c s) bit (drive_of c net bit)
+-- all that the bit depends on is acyclic in one step less
+unfoldable pub acyclic_within : Circuit → ℕ → Test
+acyclic_within c zero net bit = false
+acyclic_within c (suc s) net bit = drive_acyclic c (acyclic_within c s) bit (drive_of c net bit)
 
 -- a bit that depends on no cycle
-abbrev pub IsFree : Circuit → ℕ → ℕ → Type 0
-IsFree c net bit = (s : ℕ) × (free_within c s net bit ≡ true)
+abbrev pub IsAcyclic : Circuit → ℕ → ℕ → Type 0
+IsAcyclic c net bit = (s : ℕ) × (acyclic_within c s net bit ≡ true)
 
 -- no two drives share a bit
 abbrev pub IsDrivenOnce : Circuit → Type 0
@@ -72,4 +72,4 @@ AreDrivesInside c = (i : ℕ) (d : Drive) → slice_get c.drives i ≡ Some d �
 pub record IsInOrder (c : Circuit) : Type 0 where
   pub once : IsDrivenOnce c
   pub inside : AreDrivesInside c
-  pub free : (net bit : ℕ) → IsFree c net bit
+  pub acyclic : (net bit : ℕ) → IsAcyclic c net bit
