@@ -108,5 +108,5 @@ module _ (c : Circuit) (flat : IsFlat c) where
   in_order = record {
     once = λ i j net bit d e g h s t. flat.once i j d e g h (covering_net net bit d s ∙ sym (covering_net net bit e t));
     inside = λ i d g. (let h = flat.drives i d g in (h.1.0, h.1.1, omega (arith, h.0, h.1.2)));
-    free = λ net bit. (suc (length c.cells), early_free (length c.cells) net (all_early net) bit);
+    acyclic = λ net bit. (suc (length c.cells), early_free (length c.cells) net (all_early net) bit);
   }
