@@ -1,4 +1,4 @@
-//! Tests of `circuit` and `driver_check`, which use their public items alone.
+//! Tests of `circuit`, `driver_check` and `eval_plan`, which use their public items alone.
 #![tactic(auto)]
 
 #[cfg(test)]

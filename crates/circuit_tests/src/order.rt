@@ -5,7 +5,8 @@ use circuit::{
     BitAt, By, Cell, Circuit, DesignFault, DesignKind, Drive, Mem, Net, Op, Piece, ReadPort, Scope,
     Sig,
 };
-use driver_check::{Node, order};
+use driver_check::Node;
+use eval_plan::order;
 use sim_base::{Bits, Name, NoMemory};
 use sqlite_items::Items;
 use std::alloc::Global;

@@ -9,14 +9,3 @@ pub mod Linked
 pub mod Freedom
 pub mod Nexts
 pub mod Walked
-pub mod Noded
-pub mod Sourced
-pub mod Ended
-pub mod Rooted
-pub mod Tabled
-pub mod Listed
-pub mod Given
-pub mod Noting
-pub mod Held
-pub mod Read
-pub mod Results

@@ -16,13 +16,13 @@ use Rattle.circuit.specs.declared.cell.Cell.{Cell}
 use Rattle.circuit.specs.declared.memory.Mem.{Mem}
 use Rattle.circuit.specs.declared.memory.ReadPort.{ReadPort}
 use Rattle.driver_check.specs.Depends.{Bit, CellReads, DependsOn, DriveTakes, MemReads, PortReads, TakesBit}
-use Rattle.driver_check.specs.Numbers.{before, bit_count, IsBit, number_of, width_of}
-use Rattle.driver_check.specs.Ordered.{NodeReads}
+use Rattle.driver_check.specs.Numbers.{before, bit_count, IsBit, bit_number, width_of}
+use Rattle.driver_check.specs.Nodes.{NodeReads, IsPart, part_place}
 use Rattle.driver_check.specs.Search.{Needs}
-use Rattle.driver_check.specs.Vertices.{IsPart, bit_span, by_span, cell_spans, drive_span, mem_spans, node_spans, nothing, place_of, port_spans, sig_spans, span_of}
+use Rattle.driver_check.specs.Vertices.{bit_span, by_span, cell_spans, drive_span, mem_spans, node_spans, nothing, port_spans, sig_spans, span_of}
 use Rattle.driver_check.specs.declared.graph.Span.{Span}
-use Rattle.driver_check.specs.declared.plan.Node.{Node}
-use Rattle.driver_check.specs.declared.plan.Node.TheVariants as node
+use Rattle.driver_check.specs.declared.parts.Node.{Node}
+use Rattle.driver_check.specs.declared.parts.Node.TheVariants as node
 use Rattle.driver_check.proofs.Places.{kept}
 use Rattle.driver_check.proofs.Fitting.{cell_bits, cell_there, drive_fits_at, port_bits, port_there, wire_there}
 use Rattle.driver_check.proofs.Owned.{covers_parts}
@@ -64,10 +64,10 @@ pub one_needs : (s : Span) (w : ℕ) → s.first ≤ w → w < s.first + s.width
 one_needs s w le lt = (0, s, refl, le, lt)
 
 -- a signal's spans are the bits that it reads
-pub needs_sig : (nets : List Net) (ps : List Piece) (net bit : ℕ) → Reads ps net bit → Needs (sig_spans nets ps) (number_of nets (net, bit))
+pub needs_sig : (nets : List Net) (ps : List Piece) (net bit : ℕ) → Reads ps net bit → Needs (sig_spans nets ps) (bit_number nets (net, bit))
 unfolding Reads
 needs_sig nets [] net bit r = absurd r
-needs_sig nets (piece.Const v ∷ ps) net bit r = needs_right [] (sig_spans nets ps) (number_of nets (net, bit)) (needs_sig nets ps net bit r)
+needs_sig nets (piece.Const v ∷ ps) net bit r = needs_right [] (sig_spans nets ps) (bit_number nets (net, bit)) (needs_sig nets ps net bit r)
 needs_sig nets (piece.Part n at width ∷ ps) net bit (inl r) =
     let e : before width_of nets n ≡ before width_of nets net = ap (before width_of nets) r.0 in
     needs_left (span_of (before width_of nets n + at) width ∷ []) (sig_spans nets ps) (before width_of nets net + bit)
@@ -75,9 +75,9 @@ needs_sig nets (piece.Part n at width ∷ ps) net bit (inl r) =
     (let h : before width_of nets n + at ≤ before width_of nets net + bit = omega (arith, e, r.1) in h)
     (let h : before width_of nets net + bit < before width_of nets n + at + width = omega (arith, e, r.2) in h))
 needs_sig nets (piece.Part n at width ∷ ps) net bit (inr r) =
-    needs_right (span_of (before width_of nets n + at) width ∷ []) (sig_spans nets ps) (number_of nets (net, bit)) (needs_sig nets ps net bit r)
+    needs_right (span_of (before width_of nets n + at) width ∷ []) (sig_spans nets ps) (bit_number nets (net, bit)) (needs_sig nets ps net bit r)
 
-pub sig_needs : (nets : List Net) (ps : List Piece) (w : ℕ) → Needs (sig_spans nets ps) w → (net : ℕ) × (bit : ℕ) × Reads ps net bit × (number_of nets (net, bit) ≡ w)
+pub sig_needs : (nets : List Net) (ps : List Piece) (w : ℕ) → Needs (sig_spans nets ps) w → (net : ℕ) × (bit : ℕ) × Reads ps net bit × (bit_number nets (net, bit) ≡ w)
 unfolding Reads
 sig_needs nets [] w n = absurd (needs_none w n)
 sig_needs nets (piece.Const v ∷ ps) w n = elim (needs_either [] (sig_spans nets ps) w n) [
@@ -93,7 +93,7 @@ sig_needs nets (piece.Part n at width ∷ ps) w need = elim (needs_either (span_
   | inr h ↦ (let r = sig_needs nets ps w h in (r.0, r.1, inr r.2, r.3))
 ]
 
-cell_needs : (nets : List Net) (o : Option Cell) (w : ℕ) → Needs (cell_spans nets o) w → (net : ℕ) × (bit : ℕ) × CellReads o net bit × (number_of nets (net, bit) ≡ w)
+cell_needs : (nets : List Net) (o : Option Cell) (w : ℕ) → Needs (cell_spans nets o) w → (net : ℕ) × (bit : ℕ) × CellReads o net bit × (bit_number nets (net, bit) ≡ w)
 cell_needs nets None w n = absurd (needs_none w n)
 cell_needs nets (Some x) w n = elim (needs_either (sig_spans nets x.a) (sig_spans nets x.b ++ sig_spans nets x.s) w n) [
   | inl h ↦ (let r = sig_needs nets x.a w h in (r.0, r.1, inl r.2, r.3))
@@ -103,17 +103,17 @@ cell_needs nets (Some x) w n = elim (needs_either (sig_spans nets x.a) (sig_span
   ]
 ]
 
-needs_cell : (nets : List Net) (o : Option Cell) (net bit : ℕ) → CellReads o net bit → Needs (cell_spans nets o) (number_of nets (net, bit))
+needs_cell : (nets : List Net) (o : Option Cell) (net bit : ℕ) → CellReads o net bit → Needs (cell_spans nets o) (bit_number nets (net, bit))
 needs_cell nets None net bit r = absurd r
-needs_cell nets (Some x) net bit (inl r) = needs_left (sig_spans nets x.a) (sig_spans nets x.b ++ sig_spans nets x.s) (number_of nets (net, bit)) (needs_sig nets x.a net bit r)
+needs_cell nets (Some x) net bit (inl r) = needs_left (sig_spans nets x.a) (sig_spans nets x.b ++ sig_spans nets x.s) (bit_number nets (net, bit)) (needs_sig nets x.a net bit r)
 needs_cell nets (Some x) net bit (inr (inl r)) =
-    needs_right (sig_spans nets x.a) (sig_spans nets x.b ++ sig_spans nets x.s) (number_of nets (net, bit))
-    (needs_left (sig_spans nets x.b) (sig_spans nets x.s) (number_of nets (net, bit)) (needs_sig nets x.b net bit r))
+    needs_right (sig_spans nets x.a) (sig_spans nets x.b ++ sig_spans nets x.s) (bit_number nets (net, bit))
+    (needs_left (sig_spans nets x.b) (sig_spans nets x.s) (bit_number nets (net, bit)) (needs_sig nets x.b net bit r))
 needs_cell nets (Some x) net bit (inr (inr r)) =
-    needs_right (sig_spans nets x.a) (sig_spans nets x.b ++ sig_spans nets x.s) (number_of nets (net, bit))
-    (needs_right (sig_spans nets x.b) (sig_spans nets x.s) (number_of nets (net, bit)) (needs_sig nets x.s net bit r))
+    needs_right (sig_spans nets x.a) (sig_spans nets x.b ++ sig_spans nets x.s) (bit_number nets (net, bit))
+    (needs_right (sig_spans nets x.b) (sig_spans nets x.s) (bit_number nets (net, bit)) (needs_sig nets x.s net bit r))
 
-port_needs : (nets : List Net) (o : Option ReadPort) (w : ℕ) → Needs (port_spans nets o) w → (net : ℕ) × (bit : ℕ) × PortReads o net bit × (number_of nets (net, bit) ≡ w)
+port_needs : (nets : List Net) (o : Option ReadPort) (w : ℕ) → Needs (port_spans nets o) w → (net : ℕ) × (bit : ℕ) × PortReads o net bit × (bit_number nets (net, bit) ≡ w)
 port_needs nets None w n = absurd (needs_none w n)
 port_needs nets (Some p) w n = elim (cases_Bool p.clocked) [
   | inl on ↦ absurd (needs_none w (subst (λ (spans : List Span). Needs spans w) (cond-true p.clocked [] (sig_spans nets p.addr) on) n))
@@ -122,24 +122,24 @@ port_needs nets (Some p) w n = elim (cases_Bool p.clocked) [
       (r.0, r.1, (off, r.2), r.3))
 ]
 
-needs_port : (nets : List Net) (o : Option ReadPort) (net bit : ℕ) → PortReads o net bit → Needs (port_spans nets o) (number_of nets (net, bit))
+needs_port : (nets : List Net) (o : Option ReadPort) (net bit : ℕ) → PortReads o net bit → Needs (port_spans nets o) (bit_number nets (net, bit))
 needs_port nets None net bit r = absurd r
 needs_port nets (Some p) net bit r =
-    subst (λ (spans : List Span). Needs spans (number_of nets (net, bit))) (sym (cond-false p.clocked [] (sig_spans nets p.addr) r.0)) (needs_sig nets p.addr net bit r.1)
+    subst (λ (spans : List Span). Needs spans (bit_number nets (net, bit))) (sym (cond-false p.clocked [] (sig_spans nets p.addr) r.0)) (needs_sig nets p.addr net bit r.1)
 
-mem_needs : (nets : List Net) (o : Option Mem) (n w : ℕ) → Needs (mem_spans nets o n) w → (net : ℕ) × (bit : ℕ) × MemReads o n net bit × (number_of nets (net, bit) ≡ w)
+mem_needs : (nets : List Net) (o : Option Mem) (n w : ℕ) → Needs (mem_spans nets o n) w → (net : ℕ) × (bit : ℕ) × MemReads o n net bit × (bit_number nets (net, bit) ≡ w)
 mem_needs nets None n w h = absurd (needs_none w h)
 mem_needs nets (Some m) n w h = port_needs nets (slice_get m.reads n) w h
 
-needs_mem : (nets : List Net) (o : Option Mem) (n net bit : ℕ) → MemReads o n net bit → Needs (mem_spans nets o n) (number_of nets (net, bit))
+needs_mem : (nets : List Net) (o : Option Mem) (n net bit : ℕ) → MemReads o n net bit → Needs (mem_spans nets o n) (bit_number nets (net, bit))
 needs_mem nets None n net bit r = absurd r
 needs_mem nets (Some m) n net bit r = needs_port nets (slice_get m.reads n) net bit r
 
-pub node_needs : (c : Circuit) (n : Node) (w : ℕ) → Needs (node_spans c n) w → (net : ℕ) × (bit : ℕ) × NodeReads c n net bit × (number_of c.nets (net, bit) ≡ w)
+pub node_needs : (c : Circuit) (n : Node) (w : ℕ) → Needs (node_spans c n) w → (net : ℕ) × (bit : ℕ) × NodeReads c n net bit × (bit_number c.nets (net, bit) ≡ w)
 node_needs c (node.Cell n) w h = cell_needs c.nets (slice_get c.cells n) w h
 node_needs c (node.Read m n) w h = mem_needs c.nets (slice_get c.mems m) n w h
 
-pub needs_node : (c : Circuit) (n : Node) (net bit : ℕ) → NodeReads c n net bit → Needs (node_spans c n) (number_of c.nets (net, bit))
+pub needs_node : (c : Circuit) (n : Node) (net bit : ℕ) → NodeReads c n net bit → Needs (node_spans c n) (bit_number c.nets (net, bit))
 needs_node c (node.Cell n) net bit r = needs_cell c.nets (slice_get c.cells n) net bit r
 needs_node c (node.Read m n) net bit r = needs_mem c.nets (slice_get c.mems m) n net bit r
 
@@ -178,10 +178,10 @@ module _ (c : Circuit) (valid : is_valid c ≡ true) where
 
   -- what the vertex of a bit needs: a bit that it depends on, or a node all of whose bits it depends on
   abbrev Via : Bit → ℕ → Type 0
-  Via x w = ((y : Bit) × DependsOn c x y × IsBit c.nets y × (number_of c.nets y ≡ w)) ⊎ ((n : Node) × IsPart c n × (bit_count c.nets + place_of c n ≡ w) × ((net bit : ℕ) → NodeReads c n net bit → DependsOn c x (net, bit)))
+  Via x w = ((y : Bit) × DependsOn c x y × IsBit c.nets y × (bit_number c.nets y ≡ w)) ⊎ ((n : Node) × IsPart c n × (bit_count c.nets + part_place c n ≡ w) × ((net bit : ℕ) → NodeReads c n net bit → DependsOn c x (net, bit)))
 
   abbrev TakesVia : By → ℕ → ℕ → Type 0
-  TakesVia b i w = ((y : Bit) × TakesBit c b i y.0 y.1 × IsBit c.nets y × (number_of c.nets y ≡ w)) ⊎ ((n : Node) × IsPart c n × (bit_count c.nets + place_of c n ≡ w) × ((net bit : ℕ) → NodeReads c n net bit → TakesBit c b i net bit))
+  TakesVia b i w = ((y : Bit) × TakesBit c b i y.0 y.1 × IsBit c.nets y × (bit_number c.nets y ≡ w)) ⊎ ((n : Node) × IsPart c n × (bit_count c.nets + part_place c n ≡ w) × ((net bit : ℕ) → NodeReads c n net bit → TakesBit c b i net bit))
 
   no_need : (w : ℕ) → Needs (nothing ∷ []) w → ⊥
   no_need w n = let o = needs_one nothing w n in let a : 0 ≤ w = o.0 in let b : w < 0 + 0 = o.1 in omega (arith, b)
@@ -196,15 +196,15 @@ module _ (c : Circuit) (valid : is_valid c ≡ true) where
       let x = wire_there c valid d fits m at is in
       inl ((m, at + i), (refl, refl), (x.0, x.1, omega (arith, x.2, lt)), (let e : before width_of c.nets m + (at + i) ≡ w = omega (arith, low, high) in e))
   by_via d fits (by.Cell m at) is i lt w n =
-      let o = needs_one (span_of (bit_count c.nets + place_of c (node.Cell m)) 1) w n in
-      let low : bit_count c.nets + place_of c (node.Cell m) ≤ w = o.0 in
-      let high : w < bit_count c.nets + place_of c (node.Cell m) + 1 = o.1 in
+      let o = needs_one (span_of (bit_count c.nets + part_place c (node.Cell m)) 1) w n in
+      let low : bit_count c.nets + part_place c (node.Cell m) ≤ w = o.0 in
+      let high : w < bit_count c.nets + part_place c (node.Cell m) + 1 = o.1 in
       inr (node.Cell m, cell_there c valid d fits m at is, omega (arith, low, high), λ net bit r. r)
   by_via d fits (by.Reg m at) is i lt w n = absurd (no_need w n)
   by_via d fits (by.Read m k at) is i lt w n =
-      let o = needs_one (span_of (bit_count c.nets + place_of c (node.Read m k)) 1) w n in
-      let low : bit_count c.nets + place_of c (node.Read m k) ≤ w = o.0 in
-      let high : w < bit_count c.nets + place_of c (node.Read m k) + 1 = o.1 in
+      let o = needs_one (span_of (bit_count c.nets + part_place c (node.Read m k)) 1) w n in
+      let low : bit_count c.nets + part_place c (node.Read m k) ≤ w = o.0 in
+      let high : w < bit_count c.nets + part_place c (node.Read m k) + 1 = o.1 in
       inr (node.Read m k, port_there c valid d fits m k at is, omega (arith, low, high), λ net bit r. r)
 
   pub via : (x : Bit) (w : ℕ) → Needs (bit_span c x ∷ []) w → Via x w
@@ -223,10 +223,10 @@ module _ (c : Circuit) (valid : is_valid c ≡ true) where
 
   -- and the other way: what a bit depends on, its vertex needs, or a node that it needs reads
   abbrev Back : Bit → Bit → Type 0
-  Back x y = Needs (bit_span c x ∷ []) (number_of c.nets y) ⊎ ((n : Node) × IsPart c n × Needs (bit_span c x ∷ []) (bit_count c.nets + place_of c n) × NodeReads c n y.0 y.1)
+  Back x y = Needs (bit_span c x ∷ []) (bit_number c.nets y) ⊎ ((n : Node) × IsPart c n × Needs (bit_span c x ∷ []) (bit_count c.nets + part_place c n) × NodeReads c n y.0 y.1)
 
   by_back : (d : Drive) → drive_fits c d ≡ true → (b : By) → d.by ≡ b → (i : ℕ) → i < d.width → (y : Bit) → TakesBit c b i y.0 y.1
-      → IsBit c.nets y × (Needs (by_span c b i ∷ []) (number_of c.nets y) ⊎ ((n : Node) × IsPart c n × Needs (by_span c b i ∷ []) (bit_count c.nets + place_of c n) × NodeReads c n y.0 y.1))
+      → IsBit c.nets y × (Needs (by_span c b i ∷ []) (bit_number c.nets y) ⊎ ((n : Node) × IsPart c n × Needs (by_span c b i ∷ []) (bit_count c.nets + part_place c n) × NodeReads c n y.0 y.1))
   by_back d fits (by.Const v) is i lt y t = absurd t
   by_back d fits (by.Input m at) is i lt y t = absurd t
   by_back d fits (by.Wire m at) is i lt y t =
@@ -238,11 +238,11 @@ module _ (c : Circuit) (valid : is_valid c ≡ true) where
             (let h : before width_of c.nets y.0 + y.1 < before width_of c.nets m + at + i + 1 = omega (arith, e, t.1) in h)),
       )
   by_back d fits (by.Cell m at) is i lt y t =
-      let place : ℕ = bit_count c.nets + place_of c (node.Cell m) in
+      let place : ℕ = bit_count c.nets + part_place c (node.Cell m) in
       (node_bits (node.Cell m) y.0 y.1 t, inr (node.Cell m, cell_there c valid d fits m at is, one_needs (span_of place 1) place (let h : place ≤ place = omega arith in h) (let h : place < place + 1 = omega arith in h), t))
   by_back d fits (by.Reg m at) is i lt y t = absurd t
   by_back d fits (by.Read m k at) is i lt y t =
-      let place : ℕ = bit_count c.nets + place_of c (node.Read m k) in
+      let place : ℕ = bit_count c.nets + part_place c (node.Read m k) in
       (node_bits (node.Read m k) y.0 y.1 t, inr (node.Read m k, port_there c valid d fits m k at is, one_needs (span_of place 1) place (let h : place ≤ place = omega arith in h) (let h : place < place + 1 = omega arith in h), t))
 
   pub back : (x y : Bit) → DependsOn c x y → IsBit c.nets y × Back x y
@@ -256,7 +256,7 @@ module _ (c : Circuit) (valid : is_valid c ≡ true) where
           let r = by_back d (drive_fits_at c valid at.0 d at.1) d.by refl (x.1 - d.at) (omega (arith, p.1, p.2)) y h in (
             r.0,
             elim r.1 [
-              | inl n ↦ inl (subst (λ (m : Option Drive). Needs (drive_span c m x.1 ∷ []) (number_of c.nets y)) (sym e) n)
-              | inr k ↦ inr (k.0, k.1, subst (λ (m : Option Drive). Needs (drive_span c m x.1 ∷ []) (bit_count c.nets + place_of c k.0)) (sym e) k.2, k.3)
+              | inl n ↦ inl (subst (λ (m : Option Drive). Needs (drive_span c m x.1 ∷ []) (bit_number c.nets y)) (sym e) n)
+              | inr k ↦ inr (k.0, k.1, subst (λ (m : Option Drive). Needs (drive_span c m x.1 ∷ []) (bit_count c.nets + part_place c k.0)) (sym e) k.2, k.3)
             ],
           )

@@ -5,7 +5,7 @@ use Rattle.std.proofs.lemmas.Bool.{cases_lt}
 use Rattle.circuit.specs.declared.netlist.Drive.{Drive}
 use Rattle.circuit.specs.declared.netlist.Net.{Net}
 use Rattle.driver_check.specs.Depends.{Bit, IsBefore}
-use Rattle.driver_check.specs.Numbers.{before, bit_count, IsBit, IsInsideNet, number_of, start_of, width_of}
+use Rattle.driver_check.specs.Numbers.{before, bit_count, IsBit, IsInsideNet, bit_number, start_of, width_of}
 use Rattle.driver_check.proofs.Places.{within}
 
 pub before_zero : {X : Type 0} (size : X → ℕ) (xs : List X) → before size xs 0 ≡ 0
@@ -37,12 +37,12 @@ before_later size (y ∷ ys) (suc n) (suc m) x e lt =
     let h : before size ys n + size x ≤ before size ys m = before_later size ys n m x e (let z : suc n < suc m = lt in omega arith) in
     let g : size y + before size ys n + size x ≤ size y + before size ys m = omega arith in g
 
-pub bit_below : (nets : List Net) (x : Bit) → IsBit nets x → number_of nets x < bit_count nets
+pub bit_below : (nets : List Net) (x : Bit) → IsBit nets x → bit_number nets x < bit_count nets
 bit_below nets x b =
     let h = before_later width_of nets x.0 (length nets) b.0 b.1 (within nets x.0 b.0 b.1) in
     omega (arith, h, b.2)
 
-pub number_rises : (nets : List Net) (x y : Bit) → IsBit nets x → IsBefore x y → number_of nets x < number_of nets y
+pub number_rises : (nets : List Net) (x y : Bit) → IsBit nets x → IsBefore x y → bit_number nets x < bit_number nets y
 number_rises nets x y b (inl lt) =
     let h = before_later width_of nets x.0 y.0 b.0 b.1 lt in
     omega (arith, h, b.2)
@@ -51,7 +51,7 @@ number_rises nets x y b (inr e) =
     omega (arith, h, e.1)
 
 -- two numbers are the same only of one bit
-pub number_once : (nets : List Net) (x y : Bit) → IsBit nets x → IsBit nets y → number_of nets x ≡ number_of nets y → (x.0 ≡ y.0) × (x.1 ≡ y.1)
+pub number_once : (nets : List Net) (x y : Bit) → IsBit nets x → IsBit nets y → bit_number nets x ≡ bit_number nets y → (x.0 ≡ y.0) × (x.1 ≡ y.1)
 number_once nets x y a b e = elim (cases_lt x.0 y.0) [
   | inl lt ↦ absurd (let h = number_rises nets x y a (inl lt) in omega (arith, h, e))
   | inr le ↦ elim (cases_lt y.0 x.0) [
@@ -64,7 +64,7 @@ number_once nets x y a b e = elim (cases_lt x.0 y.0) [
 ]
 
 -- of two bits the one with the smaller number comes first
-pub number_order : (nets : List Net) (x y : Bit) → IsBit nets x → IsBit nets y → number_of nets x ≤ number_of nets y → IsBefore y x → ⊥
+pub number_order : (nets : List Net) (x y : Bit) → IsBit nets x → IsBit nets y → bit_number nets x ≤ bit_number nets y → IsBefore y x → ⊥
 number_order nets x y a b le lt = let h = number_rises nets y x b lt in omega (arith, h, le)
 
 pub before_bound : {X : Type 0} (size : X → ℕ) (most : ℕ) (xs : List X) → ((i : ℕ) (x : X) → slice_get xs i ≡ Some x → size x ≤ most) → (n : ℕ) → before size xs n ≤ most * length xs
@@ -92,5 +92,5 @@ split size (x ∷ xs) v lt = elim (cases_lt v (size x)) [
       (suc r.0, r.1, r.2, r.3, r.4, (let h : size x + before size xs r.0 + r.2 ≡ v = omega (arith, r.5, le) in h)))
 ]
 
-pub bit_at_number : (nets : List Net) (v : ℕ) → v < bit_count nets → (x : Bit) × IsBit nets x × (number_of nets x ≡ v)
+pub bit_at_number : (nets : List Net) (v : ℕ) → v < bit_count nets → (x : Bit) × IsBit nets x × (bit_number nets x ≡ v)
 bit_at_number nets v lt = let r = split width_of nets v lt in ((r.0, r.2), (r.1, r.3, r.4), r.5)

@@ -9,8 +9,9 @@ use Rattle.circuit.specs.declared.netlist.Drive.{Drive}
 use Rattle.circuit.specs.declared.netlist.Net.{Net}
 use Rattle.driver_check.specs.Depends.{Bit}
 use Rattle.driver_check.specs.Faults.{Covers, IsFirstShared, IsShared}
-use Rattle.driver_check.specs.Numbers.{before, bit_count, IsBit, IsIn, number_of, start_of, width_of}
-use Rattle.driver_check.specs.Owners.{AreOwners, IsLeastShared, IsNextCover, IsOwner}
+use Rattle.driver_check.specs.Numbers.{before, bit_count, IsBit, IsIn, bit_number, start_of, width_of}
+use Rattle.driver_check.specs.Owners.{AreOwners, IsOwner}
+use Rattle.driver_check.specs.Invariants.{IsLeastShared, IsNextCover}
 use Rattle.driver_check.proofs.Places.{same, within}
 use Rattle.driver_check.proofs.Numbered.{bit_below, number_once, number_order}
 
@@ -27,7 +28,7 @@ covers_from d net bit e le lt =
     and_from (nat_eq d.net net) (nat_le d.at bit && nat_lt bit (d.at + d.width)) (eq-eqb d.net net e)
     (and_from (nat_le d.at bit) (nat_lt bit (d.at + d.width)) (le-leb d.at bit le) (lt-ltb bit (d.at + d.width) lt))
 
-pub covers_in : (c : Circuit) (d : Drive) (x : Bit) → covers x.0 x.1 d ≡ true → IsIn (start_of c.nets d) d.width (number_of c.nets x)
+pub covers_in : (c : Circuit) (d : Drive) (x : Bit) → covers x.0 x.1 d ≡ true → IsIn (start_of c.nets d) d.width (bit_number c.nets x)
 covers_in c d x h =
     let p = covers_parts d x.0 x.1 h in
     let e : before width_of c.nets d.net ≡ before width_of c.nets x.0 = ap (before width_of c.nets) p.0 in
@@ -35,15 +36,15 @@ covers_in c d x h =
 
 -- the bit of a drive that has a number
 pub bit_in : (c : Circuit) → AreDrivesInside c → (i : ℕ) (d : Drive) → slice_get c.drives i ≡ Some d → (v : ℕ) → IsIn (start_of c.nets d) d.width v
-    → (x : Bit) × IsBit c.nets x × (covers x.0 x.1 d ≡ true) × (number_of c.nets x ≡ v)
+    → (x : Bit) × IsBit c.nets x × (covers x.0 x.1 d ≡ true) × (bit_number c.nets x ≡ v)
 bit_in c inside i d at v h =
     let n = inside i d at in
     let bit = v - before width_of c.nets d.net in
     ((d.net, bit), (n.0, n.1, omega (arith, n.2, h.0, h.1)), covers_from d d.net bit refl (omega (arith, h.0)) (omega (arith, h.0, h.1)), omega (arith, h.0))
 
-pub in_covers : (c : Circuit) → AreDrivesInside c → (i : ℕ) (d : Drive) → slice_get c.drives i ≡ Some d → (x : Bit) → IsBit c.nets x → IsIn (start_of c.nets d) d.width (number_of c.nets x) → covers x.0 x.1 d ≡ true
+pub in_covers : (c : Circuit) → AreDrivesInside c → (i : ℕ) (d : Drive) → slice_get c.drives i ≡ Some d → (x : Bit) → IsBit c.nets x → IsIn (start_of c.nets d) d.width (bit_number c.nets x) → covers x.0 x.1 d ≡ true
 in_covers c inside i d at x b h =
-    let y = bit_in c inside i d at (number_of c.nets x) h in
+    let y = bit_in c inside i d at (bit_number c.nets x) h in
     let s = number_once c.nets y.0 x y.1 b y.3 in
     subst (λ (n : ℕ). covers n x.1 d ≡ true) s.0 (subst (λ (n : ℕ). covers y.0.0 n d ≡ true) s.1 y.2)
 
@@ -60,11 +61,11 @@ abbrev taken : ℕ → ℕ → ℕ → ℕ → ℕ → Bool
 taken first width nobody owner v = (nat_le first v && nat_lt v (first + width)) && owner == nobody
 
 pub no_owners : (c : Circuit) (owners : List ℕ) → ((v : ℕ) → v < bit_count c.nets → slice_index owners v ≡ length c.drives) → AreOwners c 0 owners
-no_owners c owners h x b = inr (h (number_of c.nets x) (bit_below c.nets x b), λ k lt cov. absurd (omega (arith, lt)))
+no_owners c owners h x b = inr (h (bit_number c.nets x) (bit_below c.nets x b), λ k lt cov. absurd (omega (arith, lt)))
 
 module _ (c : Circuit) (inside : AreDrivesInside c) (i : ℕ) (d : Drive) (at : slice_get c.drives i ≡ Some d) (x : Bit) (b : IsBit c.nets x) (owner : ℕ) (was : IsOwner c i x owner) where
   abbrev v : ℕ
-  v = number_of c.nets x
+  v = bit_number c.nets x
 
   abbrev test : Bool
   test = taken (start_of c.nets d) d.width (length c.drives) owner v
@@ -114,16 +115,16 @@ pub owners_more : (c : Circuit) → AreDrivesInside c → (i : ℕ) (d : Drive) 
     → ((v : ℕ) → slice_index after v ≡ cond (taken (start_of c.nets d) d.width (length c.drives) (slice_index owners v) v) i (slice_index owners v))
     → AreOwners c (i + 1) after
 owners_more c inside i d at owners after were is x b =
-    subst (λ (o : ℕ). IsOwner c (i + 1) x o) (sym (is (number_of c.nets x)))
-    (owner_more c inside i d at x b (slice_index owners (number_of c.nets x)) (were x b))
+    subst (λ (o : ℕ). IsOwner c (i + 1) x o) (sym (is (bit_number c.nets x)))
+    (owner_more c inside i d at x b (slice_index owners (bit_number c.nets x)) (were x b))
 
 -- ---- the least bit with two drives
 
 module _ (c : Circuit) (inside : AreDrivesInside c) (owners : List ℕ) (are : AreOwners c (length c.drives) owners) where
   -- the owner of a bit that a drive covers is no later one
-  pub owner_first : (i : ℕ) (x : Bit) → Covers c i x → (slice_index owners (number_of c.nets x) ≤ i) × Covers c (slice_index owners (number_of c.nets x)) x × ((k : ℕ) → k < slice_index owners (number_of c.nets x) → Covers c k x → ⊥)
+  pub owner_first : (i : ℕ) (x : Bit) → Covers c i x → (slice_index owners (bit_number c.nets x) ≤ i) × Covers c (slice_index owners (bit_number c.nets x)) x × ((k : ℕ) → k < slice_index owners (bit_number c.nets x) → Covers c k x → ⊥)
   owner_first i x cov = elim (are x (covered_is_bit c inside i x cov)) [
-    | inl o ↦ elim (cases_lt i (slice_index owners (number_of c.nets x))) [
+    | inl o ↦ elim (cases_lt i (slice_index owners (bit_number c.nets x))) [
       | inl lt ↦ absurd (o.2 i lt cov)
       | inr le ↦ (le, o.1, o.2)
     ]
@@ -148,7 +149,7 @@ module _ (c : Circuit) (inside : AreDrivesInside c) (owners : List ℕ) (are : A
       | inl e ↦
           (let same_drive : cov.0 ≡ d = same c.drives i cov.0 d (subst (λ (n : ℕ). slice_get c.drives n ≡ Some cov.0) e cov.1) at in
           let here : covers x.0 x.1 d ≡ true = sym (ap (covers x.0 x.1) same_drive) ∙ cov.2 in
-          below (number_of c.nets x) (covers_in c d x here) (λ owned. let o = owner_first k x also in omega (arith, o.0, owned, less, e)))
+          below (bit_number c.nets x) (covers_in c d x here) (λ owned. let o = owner_first k x also in omega (arith, o.0, owned, less, e)))
       | inr ne ↦ (let h = was.below x j b (omega (arith, lt, ne)) cov k less also in omega (arith, h, most))
     ];
     is = elim is [
@@ -156,8 +157,8 @@ module _ (c : Circuit) (inside : AreDrivesInside c) (owners : List ℕ) (are : A
       | inr h ↦
           (let x = bit_in c inside i d at after h.0 in
           let o = owner_first i x.0 (d, at, x.2) in
-          let owner_ne : slice_index owners (number_of c.nets x.0) ≢ i = subst (λ (v : ℕ). slice_index owners v ≢ i) (sym x.3) h.1 in
-          inr (x.0, x.1, (slice_index owners (number_of c.nets x.0), i, omega (arith, o.0, owner_ne), o.1, (d, at, x.2)), x.3))
+          let owner_ne : slice_index owners (bit_number c.nets x.0) ≢ i = subst (λ (v : ℕ). slice_index owners v ≢ i) (sym x.3) h.1 in
+          inr (x.0, x.1, (slice_index owners (bit_number c.nets x.0), i, omega (arith, o.0, owner_ne), o.1, (d, at, x.2)), x.3))
     ];
   }
 
@@ -181,11 +182,11 @@ module _ (c : Circuit) (inside : AreDrivesInside c) (owners : List ℕ) (are : A
 same_bit : (x y : Bit) → x.0 ≡ y.0 → x.1 ≡ y.1 → x ≡ y
 same_bit x y p q = subst (λ (n : ℕ). ◌≡◌ {A = Bit} x (n, y.1)) p (subst (λ (m : ℕ). ◌≡◌ {A = Bit} x (x.0, m)) q refl)
 
-pub one_bit : (nets : List Net) (x y : Bit) → IsBit nets x → IsBit nets y → number_of nets x ≡ number_of nets y → x ≡ y
+pub one_bit : (nets : List Net) (x y : Bit) → IsBit nets x → IsBit nets y → bit_number nets x ≡ bit_number nets y → x ≡ y
 one_bit nets x y a b e = let s = number_once nets x y a b e in same_bit x y s.0 s.1
 
 module _ (c : Circuit) (inside : AreDrivesInside c) (owners : List ℕ) (are : AreOwners c (length c.drives) owners) (least bits : ℕ) (shared : IsLeastShared c (length c.drives) least bits) (some : least < bits) where
-  pub shared_bit : (x : Bit) × IsBit c.nets x × IsShared c x × (number_of c.nets x ≡ least)
+  pub shared_bit : (x : Bit) × IsBit c.nets x × IsShared c x × (bit_number c.nets x ≡ least)
   shared_bit = elim shared.is [
     | inl e ↦ absurd (omega (arith, e, some))
     | inr x ↦ x
@@ -207,7 +208,7 @@ module _ (c : Circuit) (inside : AreDrivesInside c) (owners : List ℕ) (are : A
       subst (λ (v : ℕ). IsIn (start_of c.nets d) d.width v) shared_bit.3
       (covers_in c d shared_bit.0 (subst (λ (e : Drive). covers shared_bit.0.0 shared_bit.0.1 e ≡ true) z o.2))
 
-  pub first_shared : (y : Bit) → number_of c.nets y ≡ least → Covers c (slice_index owners least) y → (second : ℕ) → IsNextCover c.drives (slice_index owners least) y.0 y.1 second → IsFirstShared c y (slice_index owners least) second
+  pub first_shared : (y : Bit) → bit_number c.nets y ≡ least → Covers c (slice_index owners least) y → (second : ℕ) → IsNextCover c.drives (slice_index owners least) y.0 y.1 second → IsFirstShared c y (slice_index owners least) second
   first_shared y is cov second next = record {
     ordered = next.behind;
     first_covers = cov;
@@ -284,7 +285,7 @@ owner_has c x o d (inl h) at =
 owner_has c x o d (inr h) at = absurd (omega (arith, h.0, within c.drives o d at))
 
 -- the place of a bit in its drive
-pub offset_is : (c : Circuit) (x : Bit) (d : Drive) → covers x.0 x.1 d ≡ true → number_of c.nets x - start_of c.nets d ≡ x.1 - d.at
+pub offset_is : (c : Circuit) (x : Bit) (d : Drive) → covers x.0 x.1 d ≡ true → bit_number c.nets x - start_of c.nets d ≡ x.1 - d.at
 offset_is c x d cov =
     let p = covers_parts d x.0 x.1 cov in
     let e : before width_of c.nets d.net ≡ before width_of c.nets x.0 = ap (before width_of c.nets) p.0 in

@@ -3,10 +3,10 @@ use Rattle.std.proofs.Common.{◌≡◌, ℕ, ◌+◌, ◌<◌, List, [], ◌∷
 use Rattle.std.specs.Prelude.{slice_get}
 use Rattle.std.proofs.lemmas.Bool.{cases_lt}
 use Rattle.circuit.specs.declared.netlist.Circuit.{Circuit}
-use Rattle.driver_check.specs.Numbers.{before, ports_of}
-use Rattle.driver_check.specs.Vertices.{ArePlaced, IsPart, place_of}
-use Rattle.driver_check.specs.declared.plan.Node.{Node}
-use Rattle.driver_check.specs.declared.plan.Node.TheVariants as node
+use Rattle.driver_check.specs.Numbers.{before, read_count}
+use Rattle.driver_check.specs.Nodes.{ArePlaced, IsPart, part_place}
+use Rattle.driver_check.specs.declared.parts.Node.{Node}
+use Rattle.driver_check.specs.declared.parts.Node.TheVariants as node
 use Rattle.driver_check.proofs.Places.{found, pushed, within}
 use Rattle.driver_check.proofs.Numbered.{before_later}
 
@@ -24,30 +24,30 @@ part_once size xs n m i j x y p q a b e = elim (cases_lt n m) [
 ]
 
 -- each part has a place of its own
-pub place_once : (c : Circuit) (n k : Node) → IsPart c n → IsPart c k → place_of c n ≡ place_of c k → n ≡ k
+pub place_once : (c : Circuit) (n k : Node) → IsPart c n → IsPart c k → part_place c n ≡ part_place c k → n ≡ k
 place_once c (node.Cell n) (node.Cell k) a b e = ap (λ (x : ℕ). node.Cell x) e
 place_once c (node.Cell n) (node.Read m k) a b e = absurd (omega (arith, a, e))
 place_once c (node.Read m n) (node.Cell k) a b e = absurd (omega (arith, b, e))
 place_once c (node.Read m n) (node.Read l k) a b e =
-    let h : before ports_of c.mems m + n ≡ before ports_of c.mems l + k = omega (arith, e) in
-    let s = part_once ports_of c.mems m l n k a.0 b.0 a.1 b.1 a.2 b.2 h in
+    let h : before read_count c.mems m + n ≡ before read_count c.mems l + k = omega (arith, e) in
+    let s = part_once read_count c.mems m l n k a.0 b.0 a.1 b.1 a.2 b.2 h in
     ap (λ (x : ℕ). node.Read x n) s.0 ∙ ap (λ (x : ℕ). node.Read l x) s.1
 
-pub place_below : (c : Circuit) (n : Node) → IsPart c n → place_of c n < length c.cells + before ports_of c.mems (length c.mems)
+pub place_below : (c : Circuit) (n : Node) → IsPart c n → part_place c n < length c.cells + before read_count c.mems (length c.mems)
 place_below c (node.Cell n) a = omega (arith, a)
 place_below c (node.Read m n) a =
-    let h = before_later ports_of c.mems m (length c.mems) a.0 a.1 (within c.mems m a.0 a.1) in
+    let h = before_later read_count c.mems m (length c.mems) a.0 a.1 (within c.mems m a.0 a.1) in
     omega (arith, h, a.2)
 
 -- a part comes behind those that are placed
-pub placed_more : (c : Circuit) (nodes : List Node) (n : Node) → ArePlaced c nodes → IsPart c n → place_of c n ≡ length nodes → ArePlaced c (nodes ++ n ∷ [])
+pub placed_more : (c : Circuit) (nodes : List Node) (n : Node) → ArePlaced c nodes → IsPart c n → part_place c n ≡ length nodes → ArePlaced c (nodes ++ n ∷ [])
 placed_more c nodes n were part at k m e = elim (pushed nodes n k m e) [
   | inl a ↦ were k m a
-  | inr a ↦ subst (λ (x : Node). IsPart c x × (place_of c x ≡ k)) a.1 (part, at ∙ sym a.0)
+  | inr a ↦ subst (λ (x : Node). IsPart c x × (part_place c x ≡ k)) a.1 (part, at ∙ sym a.0)
 ]
 
-pub all_placed : (c : Circuit) (nodes : List Node) → ArePlaced c nodes → length nodes ≡ length c.cells + before ports_of c.mems (length c.mems) → (n : Node) → IsPart c n → slice_get nodes (place_of c n) ≡ Some n
+pub all_placed : (c : Circuit) (nodes : List Node) → ArePlaced c nodes → length nodes ≡ length c.cells + before read_count c.mems (length c.mems) → (n : Node) → IsPart c n → slice_get nodes (part_place c n) ≡ Some n
 all_placed c nodes are long n part =
-    let there = found nodes (place_of c n) (let h = place_below c n part in omega (arith, h, long)) in
-    let at = are (place_of c n) there.0 there.1 in
+    let there = found nodes (part_place c n) (let h = place_below c n part in omega (arith, h, long)) in
+    let at = are (part_place c n) there.0 there.1 in
     there.1 ∙ ap (λ (x : Node). Some x) (place_once c there.0 n at.0 part at.1)

@@ -6,7 +6,8 @@ use Rattle.driver_check.specs.declared.graph.Span.{Span}
 use Rattle.driver_check.specs.declared.search.Mark.{Mark}
 use Rattle.driver_check.specs.declared.search.Mark.TheVariants as mark
 use Rattle.driver_check.specs.declared.search.Frame.{Frame}
-use Rattle.driver_check.specs.Search.{AreFramesInside, Has, IsNoNewer, IsSearch, IsSorted, Needs, Rows, WasSeen}
+use Rattle.driver_check.specs.Invariants.{AreFramesInside, IsNoNewer, IsSearch, WasSeen}
+use Rattle.driver_check.specs.Search.{Has, IsSorted, Needs, Rows}
 use Rattle.driver_check.proofs.Places.{found, within, same, kept, last, pushed, set_same, set_other, was_set}
 
 two_marks : (marks : List Mark) (v : ℕ) (m n : Mark) → Has marks m v → Has marks n v → m ≡ n

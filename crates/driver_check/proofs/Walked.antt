@@ -6,10 +6,10 @@ use Rattle.circuit.specs.Valid.{is_valid}
 use Rattle.circuit.specs.declared.netlist.Circuit.{Circuit}
 use Rattle.driver_check.specs.Depends.{Bit}
 use Rattle.driver_check.specs.Faults.{IsFirstStuck, IsNext, IsWalk}
-use Rattle.driver_check.specs.Numbers.{IsBit, number_of}
+use Rattle.driver_check.specs.Numbers.{IsBit, bit_number}
 use Rattle.driver_check.specs.Search.{Has}
-use Rattle.driver_check.specs.Sorting.{IsFirstMarked, IsSorting}
-use Rattle.driver_check.specs.Walking.{IsWalking, nowhere}
+use Rattle.driver_check.specs.Invariants.{IsFirstMarked, IsWalking, nowhere}
+use Rattle.driver_check.specs.Sorting.{IsSorting}
 use Rattle.driver_check.specs.declared.search.Mark.TheVariants as mark
 use Rattle.driver_check.specs.declared.sorting.Sorting.{Sorting}
 use Rattle.driver_check.proofs.Places.{kept, last, pushed, within}
@@ -32,8 +32,8 @@ starting c s seen v long lt stuck none first = record {
 
 module _ (c : Circuit) (valid : is_valid c ≡ true) (s : Sorting) (is : IsSorting c s) (walk : List Bit) (seen : List ℕ) (v : ℕ) (was : IsWalking c s walk seen v) where
   -- the walk goes on
-  pub walked : length walk ≤ slice_index seen v → length walk < nowhere → (x : Bit) → IsBit c.nets x → number_of c.nets x ≡ v → (w : ℕ) → w < s.numbering.bits → Has s.search.marks.items mark.Stuck w
-      → ((y : Bit) → IsBit c.nets y → number_of c.nets y ≡ w → IsNext c x y)
+  pub walked : length walk ≤ slice_index seen v → length walk < nowhere → (x : Bit) → IsBit c.nets x → bit_number c.nets x ≡ v → (w : ℕ) → w < s.numbering.bits → Has s.search.marks.items mark.Stuck w
+      → ((y : Bit) → IsBit c.nets y → bit_number c.nets y ≡ w → IsNext c x y)
       → IsWalking c s (walk ++ x ∷ []) (set seen v (length walk)) w
   walked new small x b at w lt stuck next = record {
     long = length-set seen v (length walk) ∙ was.long;
@@ -42,10 +42,10 @@ module _ (c : Circuit) (valid : is_valid c ≡ true) (s : Sorting) (is : IsSorti
     at = λ k y e. elim (pushed walk x k y e) [
       | inl h ↦
           (let o = was.at k y h in
-          (o.0, get_or-set_other seen v (number_of c.nets y) (length walk) 0 (λ eq. absurd (let less = within walk k y h in let z : slice_index seen v ≡ k = sym (ap (slice_index seen) eq) ∙ o.1 in omega (arith, less, z, new))) ∙ o.1))
+          (o.0, get_or-set_other seen v (bit_number c.nets y) (length walk) 0 (λ eq. absurd (let less = within walk k y h in let z : slice_index seen v ≡ k = sym (ap (slice_index seen) eq) ∙ o.1 in omega (arith, less, z, new))) ∙ o.1))
       | inr h ↦ (
         subst (λ (z : Bit). IsBit c.nets z) h.1 b,
-        subst (λ (z : Bit). slice_index (set seen v (length walk)) (number_of c.nets z) ≡ k) h.1
+        subst (λ (z : Bit). slice_index (set seen v (length walk)) (bit_number c.nets z) ≡ k) h.1
             (subst (λ (u : ℕ). slice_index (set seen v (length walk)) u ≡ k) (sym at) (set_here ∙ sym h.0)),
       )
     ];
@@ -112,5 +112,5 @@ module _ (c : Circuit) (valid : is_valid c ≡ true) (s : Sorting) (is : IsSorti
         closed = λ k x y e p q.
             let b = was.at (slice_index seen v) y q in
             let z : o.0 ≡ y = (let h : Some o.0 ≡ Some y = sym o.1 ∙ q in cc h) in
-            was.last k x y e p b.0 (ap (number_of c.nets) (sym z) ∙ o.2);
+            was.last k x y e p b.0 (ap (bit_number c.nets) (sym z) ∙ o.2);
       }

@@ -1,16 +1,16 @@
 -- Which bits a bit depends on, and which bits come before others.
-use Rattle.std.specs.Prelude.{◌≡◌, ℕ, ◌+◌, ◌-◌, ◌<◌, ◌⊎◌, Option, Some, None, false, slice_get}
-use Rattle.circuit.specs.Signal.{Reads}
-use Rattle.circuit.specs.Output.{ReadsBit}
-use Rattle.circuit.specs.Valuation.{drive_of}
+use Rattle.std.specs.Prelude.{◌≡◌, ℕ, ◌-◌, ◌<◌, ◌⊎◌, Some, slice_get, false, ◌+◌, Option, None}
 use Rattle.circuit.specs.Acyclic.{IsAcyclic}
-use Rattle.circuit.specs.declared.netlist.Circuit.{Circuit}
-use Rattle.circuit.specs.declared.netlist.Drive.{Drive}
-use Rattle.circuit.specs.declared.netlist.By.{By}
-use Rattle.circuit.specs.declared.netlist.By.TheVariants as by
+use Rattle.circuit.specs.Output.{ReadsBit}
+use Rattle.circuit.specs.Signal.{Reads}
+use Rattle.circuit.specs.Valuation.{drive_of}
 use Rattle.circuit.specs.declared.cell.Cell.{Cell}
 use Rattle.circuit.specs.declared.memory.Mem.{Mem}
 use Rattle.circuit.specs.declared.memory.ReadPort.{ReadPort}
+use Rattle.circuit.specs.declared.netlist.By.TheVariants as by
+use Rattle.circuit.specs.declared.netlist.By.{By}
+use Rattle.circuit.specs.declared.netlist.Circuit.{Circuit}
+use Rattle.circuit.specs.declared.netlist.Drive.{Drive}
 
 -- a cell reads a bit
 abbrev pub CellReads : Option Cell → ℕ → ℕ → Type 0

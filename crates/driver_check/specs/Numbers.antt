@@ -14,12 +14,12 @@ before size (x ∷ xs) (suc n) = size x + before size xs n
 abbrev pub width_of : Net → ℕ
 width_of x = x.width
 
-abbrev pub ports_of : Mem → ℕ
-ports_of m = length m.reads
+abbrev pub read_count : Mem → ℕ
+read_count m = length m.reads
 
 -- the number of a bit among all bits of all nets
-abbrev pub number_of : List Net → Bit → ℕ
-number_of nets x = before width_of nets x.0 + x.1
+abbrev pub bit_number : List Net → Bit → ℕ
+bit_number nets x = before width_of nets x.0 + x.1
 
 -- how many bits all nets have
 abbrev pub bit_count : List Net → ℕ

@@ -1,13 +1,13 @@
 -- A circuit whose bits have one drive each, sorted.
-use Rattle.std.specs.Prelude.{◌≡◌, ℕ, ◌<◌, length}
+use Rattle.std.specs.Prelude.{◌≡◌, length}
 use Rattle.circuit.specs.Acyclic.{IsDrivenOnce}
 use Rattle.circuit.specs.declared.netlist.Circuit.{Circuit}
+use Rattle.driver_check.specs.declared.sorting.Sorting.{Sorting}
+use Rattle.driver_check.specs.Nodes.{AreParts}
 use Rattle.driver_check.specs.Numbers.{IsNumbering}
 use Rattle.driver_check.specs.Owners.{AreOwners}
-use Rattle.driver_check.specs.Search.{Has, IsSorted, row_of, size_of_graph}
-use Rattle.driver_check.specs.Vertices.{AreParts, IsGraphOf}
-use Rattle.driver_check.specs.declared.sorting.Sorting.{Sorting}
-use Rattle.driver_check.specs.declared.search.Mark.TheVariants as mark
+use Rattle.driver_check.specs.Search.{IsSorted, row_of, size_of_graph}
+use Rattle.driver_check.specs.Vertices.{IsGraphOf}
 
 pub record IsSorting (c : Circuit) (s : Sorting) : Type 0 where
   pub numbers : IsNumbering c.nets s.numbering.firsts.items s.numbering.bits
@@ -17,8 +17,3 @@ pub record IsSorting (c : Circuit) (s : Sorting) : Type 0 where
   pub graph : IsGraphOf c s.parts.nodes.items s.graph.bits.items s.graph.nodes.items
   pub sorted : IsSorted (row_of s.graph) (size_of_graph s.graph) s.search.marks.items s.search.order.items
   pub once : IsDrivenOnce c
-
--- the least number of a bit that is stuck, or else how many bits there are
-pub record IsFirstMarked (s : Sorting) (v : ℕ) : Type 0 where
-  pub below : (u : ℕ) → u < v → Has s.search.marks.items mark.Stuck u → ⊥
-  pub is : v < s.numbering.bits → Has s.search.marks.items mark.Stuck v

@@ -1,47 +1,23 @@
 -- The graph of a circuit: what each bit and each node needs.
-use Rattle.std.specs.Prelude.{◌≡◌, ℕ, ◌+◌, ◌-◌, ◌<◌, List, [], ◌∷◌, ◌++◌, length, map, Option, Some, None, slice_get, slice_index, if◌then◌else◌}
 use Rattle.std.specs.List.{flat_map}
+use Rattle.std.specs.Prelude.{◌≡◌, ℕ, ◌-◌, List, length, Some, slice_get, ◌+◌, [], ◌∷◌, Option, None, if◌then◌else◌, ◌++◌, map}
 use Rattle.circuit.specs.Valuation.{drive_of}
-use Rattle.circuit.specs.declared.netlist.Circuit.{Circuit}
-use Rattle.circuit.specs.declared.netlist.Drive.{Drive}
-use Rattle.circuit.specs.declared.netlist.Net.{Net}
-use Rattle.circuit.specs.declared.netlist.By.{By}
-use Rattle.circuit.specs.declared.netlist.By.TheVariants as by
-use Rattle.circuit.specs.declared.netlist.Piece.{Piece}
-use Rattle.circuit.specs.declared.netlist.Piece.TheVariants as piece
 use Rattle.circuit.specs.declared.cell.Cell.{Cell}
 use Rattle.circuit.specs.declared.memory.Mem.{Mem}
 use Rattle.circuit.specs.declared.memory.ReadPort.{ReadPort}
-use Rattle.driver_check.specs.Depends.{Bit}
-use Rattle.driver_check.specs.Numbers.{IsBit, before, bit_count, number_of, ports_of, width_of}
+use Rattle.circuit.specs.declared.netlist.By.TheVariants as by
+use Rattle.circuit.specs.declared.netlist.By.{By}
+use Rattle.circuit.specs.declared.netlist.Circuit.{Circuit}
+use Rattle.circuit.specs.declared.netlist.Drive.{Drive}
+use Rattle.circuit.specs.declared.netlist.Net.{Net}
+use Rattle.circuit.specs.declared.netlist.Piece.TheVariants as piece
+use Rattle.circuit.specs.declared.netlist.Piece.{Piece}
 use Rattle.driver_check.specs.declared.graph.Span.{Span}
-use Rattle.driver_check.specs.declared.plan.Node.{Node}
-use Rattle.driver_check.specs.declared.plan.Node.TheVariants as node
-
--- ---- the places of nodes: the cells, and behind them the read ports of each memory, those with a clock too
-
-abbrev pub place_of : Circuit → Node → ℕ
-place_of c (node.Cell n) = n
-place_of c (node.Read m n) = length c.cells + (before ports_of c.mems m + n)
-
--- a cell or a read port is there
-abbrev pub IsPart : Circuit → Node → Type 0
-IsPart c (node.Cell n) = n < length c.cells
-IsPart c (node.Read m n) = (x : Mem) × (slice_get c.mems m ≡ Some x) × (n < length x.reads)
-
--- each of the nodes is there and stands at its place
-abbrev pub ArePlaced : Circuit → List Node → Type 0
-ArePlaced c nodes = (k : ℕ) (n : Node) → slice_get nodes k ≡ Some n → IsPart c n × (place_of c n ≡ k)
-
--- all cells and read ports, each at its place, and the places of the first port of each memory
-pub record AreParts (c : Circuit) (nodes : List Node) (ports : List ℕ) : Type 0 where
-  pub long : length nodes ≡ length c.cells + before ports_of c.mems (length c.mems)
-  pub placed : ArePlaced c nodes
-  pub every : (n : Node) → IsPart c n → slice_get nodes (place_of c n) ≡ Some n
-  pub ports_long : length ports ≡ length c.mems
-  pub first_port : (m : ℕ) → m < length c.mems → slice_index ports m ≡ length c.cells + before ports_of c.mems m
-
--- ---- what is needed
+use Rattle.driver_check.specs.declared.parts.Node.TheVariants as node
+use Rattle.driver_check.specs.declared.parts.Node.{Node}
+use Rattle.driver_check.specs.Depends.{Bit}
+use Rattle.driver_check.specs.Nodes.{part_place}
+use Rattle.driver_check.specs.Numbers.{IsBit, bit_number, before, bit_count, width_of}
 
 abbrev pub span_of : ℕ → ℕ → Span
 span_of first width = record { first = first; width = width }
@@ -78,9 +54,9 @@ abbrev pub by_span : Circuit → By → ℕ → Span
 by_span c (by.Const v) i = nothing
 by_span c (by.Input n at) i = nothing
 by_span c (by.Wire n at) i = span_of (before width_of c.nets n + at + i) 1
-by_span c (by.Cell n at) i = span_of (bit_count c.nets + place_of c (node.Cell n)) 1
+by_span c (by.Cell n at) i = span_of (bit_count c.nets + part_place c (node.Cell n)) 1
 by_span c (by.Reg n at) i = nothing
-by_span c (by.Read m n at) i = span_of (bit_count c.nets + place_of c (node.Read m n)) 1
+by_span c (by.Read m n at) i = span_of (bit_count c.nets + part_place c (node.Read m n)) 1
 
 abbrev pub drive_span : Circuit → Option Drive → ℕ → Span
 drive_span c None bit = nothing
@@ -92,5 +68,5 @@ bit_span c x = drive_span c (drive_of c x.0 x.1) x.1
 -- the graph of a circuit, whose nodes stand in a list
 pub record IsGraphOf (c : Circuit) (nodes : List Node) (bits : List Span) (rows : List (List Span)) : Type 0 where
   pub bits_long : length bits ≡ bit_count c.nets
-  pub bit : (x : Bit) → IsBit c.nets x → slice_get bits (number_of c.nets x) ≡ Some (bit_span c x)
+  pub bit : (x : Bit) → IsBit c.nets x → slice_get bits (bit_number c.nets x) ≡ Some (bit_span c x)
   pub row : rows ≡ map (node_spans c) nodes

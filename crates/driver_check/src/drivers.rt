@@ -3,7 +3,8 @@ ghost use Rattle.std.specs.Prelude.{◌≡◌, ◌≢◌, ◌⊎◌, ℕ, ◌+�
 ghost use Rattle.circuit.specs.Valid.{is_valid};
 ghost use Rattle.circuit.specs.Valuation.{covers};
 ghost use Rattle.driver_check.specs.Numbers.{IsIn, IsNumbering};
-ghost use Rattle.driver_check.specs.Owners.{AreOwners, IsLeastShared, IsNextCover};
+ghost use Rattle.driver_check.specs.Owners.{AreOwners};
+ghost use Rattle.driver_check.specs.Invariants.{IsLeastShared, IsNextCover};
 
 use crate::numbering::Numbering;
 use circuit::{Circuit, Drive};

@@ -3,8 +3,9 @@ ghost use Rattle.std.specs.Prelude.{◌≡◌, ℕ, ◌<◌, ◌≤◌, length, 
 ghost use Rattle.circuit.specs.Valid.{is_valid};
 ghost use Rattle.circuit.specs.declared.netlist.Drive.{Drive as TheDrive};
 ghost use Rattle.driver_check.specs.Faults.{Covers, IsFirstShared, SaysTwoDrivers, named, says_two_drivers};
-ghost use Rattle.driver_check.specs.Numbers.{IsBit, IsIn, IsNumbering, number_of, start_of};
-ghost use Rattle.driver_check.specs.Owners.{AreOwners, IsLeastShared, IsNextCover};
+ghost use Rattle.driver_check.specs.Numbers.{IsBit, IsIn, IsNumbering, bit_number, start_of};
+ghost use Rattle.driver_check.specs.Owners.{AreOwners};
+ghost use Rattle.driver_check.specs.Invariants.{IsLeastShared, IsNextCover};
 
 use crate::drivers::next_cover;
 use crate::numbering::Numbering;
@@ -19,7 +20,7 @@ pub fn bit_of(circuit: &Circuit, numbering: &Numbering, place: usize, number: us
     requires numbers { IsNumbering circuit.now.nets numbering.now.firsts.items numbering.now.bits }
     requires there { place < length circuit.now.drives }
     requires inside { (d : TheDrive) → slice_get circuit.now.drives place ≡ Some d → IsIn (start_of circuit.now.nets d) d.width number }
-    ensures number { number_of circuit.now.nets (result.0, result.1) ≡ number }
+    ensures number { bit_number circuit.now.nets (result.0, result.1) ≡ number }
     ensures covers { Covers circuit.now place (result.0, result.1) }
 {
     let drive = &circuit.drives.as_slice()[place];

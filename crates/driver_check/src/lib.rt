@@ -1,29 +1,20 @@
-//! The drives of a circuit, checked and put in order.
+//! The drives of a circuit, checked: a bit has one driver at most, and none depends on itself.
 #![tactic(auto)]
 
+mod checking;
 mod drivers;
-mod entries;
 mod faults;
 mod graph;
-mod holders;
-mod listing;
-mod nodes;
-mod notes;
 mod numbering;
-mod ordering;
-mod origins;
 mod parts;
-mod plan;
-mod readers;
-mod roots;
 mod rows;
 mod search;
 mod sorting;
-mod sources;
-mod table;
 mod walk;
 
-pub use ordering::order;
-pub use plan::{Node, Plan};
-pub use sources::Sources;
-pub use table::Table;
+pub use checking::check_drivers;
+pub use graph::{Graph, Span};
+pub use numbering::Numbering;
+pub use parts::{Node, Parts};
+pub use search::{Mark, Search};
+pub use sorting::Sorting;

@@ -1,14 +1,22 @@
 //! The cells and the read ports of a circuit in a row.
 ghost use Rattle.std.specs.Prelude.{◌≡◌, ℕ, ◌+◌, ◌^◌, ◌<◌, length, true, IfOk, OnOk, slice_get, slice_index, Some};
 ghost use Rattle.circuit.specs.Valid.{is_valid};
-ghost use Rattle.driver_check.specs.Numbers.{before, ports_of};
-ghost use Rattle.driver_check.specs.Vertices.{AreParts, ArePlaced, IsPart, place_of};
-ghost use Rattle.driver_check.specs.declared.plan.Node.TheVariants as node;
+ghost use Rattle.driver_check.specs.Numbers.{before, read_count};
+ghost use Rattle.driver_check.specs.Nodes.{AreParts, ArePlaced, IsPart, part_place};
+ghost use Rattle.driver_check.specs.declared.parts.Node.TheVariants as node;
 
-use crate::plan::Node;
 use circuit::{Circuit, Mem};
 use sim_base::NoMemory;
 use std::alloc::Global;
+
+/// What computes bits from other bits: a combinational cell, or a read port without a clock.
+#[derive(Clone, Copy, Debug, PartialEq, Eq)]
+pub enum Node {
+    /// A place in the circuit's list of cells.
+    Cell(u32),
+    /// A memory, and one of its read ports.
+    Read(u32, u32),
+}
 
 /// All cells and read ports, and the place of the first port of each memory.
 #[derive(Debug, Drop)]
@@ -22,7 +30,7 @@ impl Parts {
     pub fn port_place(&self, circuit: &Circuit, mem: u32, port: u32) -> usize
         requires parts { AreParts circuit.now self.now.nodes.items self.now.ports.items }
         requires there { IsPart circuit.now (node.Read mem port) }
-        ensures value { result ≡ place_of circuit.now (node.Read mem port) }
+        ensures value { result ≡ part_place circuit.now (node.Read mem port) }
         ensures below { result < 2 ^ 63 }
     {
         let _ = circuit;
@@ -34,7 +42,7 @@ impl Parts {
     pub fn place(&self, circuit: &Circuit, node: Node) -> usize
         requires parts { AreParts circuit.now self.now.nodes.items self.now.ports.items }
         requires there { IsPart circuit.now node }
-        ensures value { result ≡ place_of circuit.now node }
+        ensures value { result ≡ part_place circuit.now node }
         ensures below { result < length self.now.nodes.items }
     {
         match node {
@@ -67,9 +75,9 @@ fn push_ports(
     requires there { slice_get circuit.now.mems place ≡ Some mem.now }
     requires few { place < 2 ^ 32 }
     requires few_ports { length mem.now.reads < 2 ^ 32 }
-    requires long { length nodes.old.items ≡ length circuit.now.cells + before ports_of circuit.now.mems place }
+    requires long { length nodes.old.items ≡ length circuit.now.cells + before read_count circuit.now.mems place }
     requires placed { ArePlaced circuit.now nodes.old.items }
-    ensures long { OnOk result (length nodes.new.items ≡ length circuit.now.cells + before ports_of circuit.now.mems (place + 1)) }
+    ensures long { OnOk result (length nodes.new.items ≡ length circuit.now.cells + before read_count circuit.now.mems (place + 1)) }
     ensures placed { OnOk result (ArePlaced circuit.now nodes.new.items) }
 {
     let _ = circuit;

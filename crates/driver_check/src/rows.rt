@@ -3,14 +3,14 @@ ghost use Rattle.std.specs.Prelude.{◌≡◌, ◌++◌, ℕ, ◌+◌, ◌<◌, 
 ghost use Rattle.std.specs.List.{list_all};
 ghost use Rattle.circuit.specs.Valid.{cell_fits, drive_fits, is_valid, piece_fits, sig_fits};
 ghost use Rattle.driver_check.specs.Depends.{Bit};
-ghost use Rattle.driver_check.specs.Numbers.{IsBit, IsNumbering, number_of};
+ghost use Rattle.driver_check.specs.Numbers.{IsBit, IsNumbering, bit_number};
 ghost use Rattle.driver_check.specs.Owners.{AreOwners};
-ghost use Rattle.driver_check.specs.Vertices.{AreParts, IsGraphOf, IsPart, bit_span, by_span, cell_spans, node_spans, port_spans, piece_spans, sig_spans};
+ghost use Rattle.driver_check.specs.Nodes.{AreParts, IsPart};
+ghost use Rattle.driver_check.specs.Vertices.{IsGraphOf, bit_span, by_span, cell_spans, node_spans, port_spans, piece_spans, sig_spans};
 
 use crate::graph::{Graph, Span};
 use crate::numbering::Numbering;
-use crate::parts::Parts;
-use crate::plan::Node;
+use crate::parts::{Node, Parts};
 use circuit::{By, Cell, Circuit, Drive, Piece, ReadPort};
 use sim_base::NoMemory;
 use sqlite_items::Items;
@@ -66,7 +66,7 @@ fn bit_row(
     requires length { length owners.now ≡ numbering.now.bits }
     requires owners { AreOwners circuit.now (length circuit.now.drives) owners.now }
     requires there { number < numbering.now.bits }
-    ensures { (x : Bit) → IsBit circuit.now.nets x → number_of circuit.now.nets x ≡ number → result ≡ bit_span circuit.now x }
+    ensures { (x : Bit) → IsBit circuit.now.nets x → bit_number circuit.now.nets x ≡ number → result ≡ bit_span circuit.now x }
 {
     let place = owners[number];
     let drives = circuit.drives.as_slice();
@@ -90,7 +90,7 @@ fn bit_rows(
     requires parts { AreParts circuit.now parts.now.nodes.items parts.now.ports.items }
     requires length { length owners.now ≡ numbering.now.bits }
     requires owners { AreOwners circuit.now (length circuit.now.drives) owners.now }
-    ensures { IfOk result (λ bits. (length bits.items ≡ numbering.now.bits) × ((x : Bit) → IsBit circuit.now.nets x → slice_get bits.items (number_of circuit.now.nets x) ≡ Some (bit_span circuit.now x))) }
+    ensures { IfOk result (λ bits. (length bits.items ≡ numbering.now.bits) × ((x : Bit) → IsBit circuit.now.nets x → slice_get bits.items (bit_number circuit.now.nets x) ≡ Some (bit_span circuit.now x))) }
 {
     let mut bits = Vec::new(alloc);
     for number in 0..numbering.bits {

@@ -1,6 +1,7 @@
 //! A depth-first search of a graph with a stack of its own, so that nothing recurses.
 ghost use Rattle.std.specs.Prelude.{◌≡◌, ℕ, ◌+◌, ◌<◌, ◌≤◌, ◌++◌, ◌∷◌, ◌⊎◌, [], length, IfOk, OnOk, slice_get, Some, true, false};
-ghost use Rattle.driver_check.specs.Search.{AreFramesInside, AreInside, Has, IsNoNewer, IsSearch, IsSorted, Needs, Rows, WasSeen, row_of, size_of_graph};
+ghost use Rattle.driver_check.specs.Invariants.{AreFramesInside, IsNoNewer, IsSearch, WasSeen};
+ghost use Rattle.driver_check.specs.Search.{AreInside, Has, IsSorted, Needs, Rows, row_of, size_of_graph};
 ghost use Rattle.driver_check.specs.declared.search.Mark.TheVariants as mark;
 ghost use Rattle.driver_check.specs.declared.search.Frame.{Frame as TheFrame};
 ghost use Rattle.driver_check.specs.declared.graph.Span.{Span as TheSpan};

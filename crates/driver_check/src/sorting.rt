@@ -2,7 +2,8 @@
 ghost use Rattle.std.specs.Prelude.{◌≡◌, ◌≤◌, IfOk, MatchResult, true};
 ghost use Rattle.circuit.specs.Valid.{is_valid};
 ghost use Rattle.driver_check.specs.Faults.{SaysTwoDrivers};
-ghost use Rattle.driver_check.specs.Sorting.{IsFirstMarked, IsSorting};
+ghost use Rattle.driver_check.specs.Invariants.{IsFirstMarked};
+ghost use Rattle.driver_check.specs.Sorting.{IsSorting};
 
 use crate::drivers::{least_shared, owners};
 use crate::faults::two_drivers;

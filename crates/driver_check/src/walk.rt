@@ -3,10 +3,10 @@ ghost use Rattle.std.specs.Prelude.{◌≡◌, ℕ, ◌+◌, ◌<◌, ◌≤◌,
 ghost use Rattle.circuit.specs.Valid.{is_valid};
 ghost use Rattle.driver_check.specs.Depends.{Bit};
 ghost use Rattle.driver_check.specs.Faults.{IsNext, IsWalk, SaysLoop, named, says_loop};
-ghost use Rattle.driver_check.specs.Numbers.{IsBit, IsIn, number_of};
+ghost use Rattle.driver_check.specs.Numbers.{IsBit, IsIn, bit_number};
 ghost use Rattle.driver_check.specs.Search.{Has, Needs};
-ghost use Rattle.driver_check.specs.Sorting.{IsFirstMarked, IsSorting};
-ghost use Rattle.driver_check.specs.Walking.{IsLeastStuck, IsWalking};
+ghost use Rattle.driver_check.specs.Invariants.{IsFirstMarked, IsLeastStuck, IsWalking};
+ghost use Rattle.driver_check.specs.Sorting.{IsSorting};
 ghost use Rattle.driver_check.specs.declared.search.Mark.TheVariants as mark;
 
 use crate::faults::{bit_of, named_bit};
@@ -54,7 +54,7 @@ impl Sorting {
         requires stuck { Has self.now.search.marks.items mark.Stuck number }
         ensures below { result < self.now.numbering.bits }
         ensures stuck { Has self.now.search.marks.items mark.Stuck result }
-        ensures next { (x y : Bit) → IsBit circuit.now.nets x → IsBit circuit.now.nets y → number_of circuit.now.nets x ≡ number → number_of circuit.now.nets y ≡ result → IsNext circuit.now x y }
+        ensures next { (x y : Bit) → IsBit circuit.now.nets x → IsBit circuit.now.nets y → bit_number circuit.now.nets x ≡ number → bit_number circuit.now.nets y ≡ result → IsNext circuit.now x y }
     {
         let _ = circuit;
         let bits = self.numbering.bits;

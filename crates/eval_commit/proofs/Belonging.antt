@@ -20,11 +20,11 @@ use Rattle.circuit.specs.declared.netlist.By.TheVariants as by
 use Rattle.circuit.specs.declared.cell.Cell.{Cell}
 use Rattle.circuit.specs.declared.memory.Mem.{Mem}
 use Rattle.circuit.specs.declared.store.Store.{Store}
-use Rattle.driver_check.specs.Roots.{AreRoots}
-use Rattle.driver_check.specs.Sources.{AreSources, cell_row, read_row}
-use Rattle.driver_check.specs.declared.sources.Sources.{Sources}
+use Rattle.eval_plan.specs.Roots.{AreRoots}
+use Rattle.eval_plan.specs.Sources.{AreSources, cell_row, read_row}
+use Rattle.eval_plan.specs.declared.sources.Sources.{Sources}
 use Rattle.driver_check.proofs.Fitting.{fits_inside}
-use Rattle.driver_check.proofs.Given.{root_fits}
+use Rattle.eval_plan.proofs.Given.{root_fits}
 use Rattle.driver_check.proofs.Places.{found, read, same, within}
 use Rattle.signal_words.specs.Stores.{IsStoreOf}
 use Rattle.signal_words.specs.Values.{digits_in, numbers, width_at, widths}

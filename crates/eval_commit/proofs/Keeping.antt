@@ -13,8 +13,8 @@ use Rattle.circuit.specs.declared.netlist.By.TheVariants as by
 use Rattle.circuit.specs.declared.register.Reg.{Reg}
 use Rattle.circuit.specs.declared.memory.Mem.{Mem}
 use Rattle.circuit.specs.declared.store.Store.{Store}
-use Rattle.driver_check.specs.Roots.{AreRoots}
-use Rattle.driver_check.proofs.Given.{root_fits}
+use Rattle.eval_plan.specs.Roots.{AreRoots}
+use Rattle.eval_plan.proofs.Given.{root_fits}
 use Rattle.driver_check.proofs.Places.{found}
 use Rattle.signal_words.specs.Stores.{IsStoreOf}
 use Rattle.signal_words.specs.Values.{widths}

@@ -8,7 +8,7 @@ use Rattle.circuit.specs.Shown.{fires_by, stored_row}
 use Rattle.circuit.specs.declared.netlist.Circuit.{Circuit}
 use Rattle.circuit.specs.declared.netlist.Net.{Net}
 use Rattle.circuit.specs.declared.memory.Mem.{Mem}
-use Rattle.driver_check.specs.declared.plan.Plan.{Plan}
+use Rattle.eval_plan.specs.declared.plan.Plan.{Plan}
 use Rattle.driver_check.proofs.Places.{found, within}
 use Rattle.memory_cells.specs.Rows.{AreRowsOf, RowValues}
 use Rattle.eval_commit.specs.Fired.{none_fired}

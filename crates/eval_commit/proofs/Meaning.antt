@@ -13,28 +13,29 @@ use Rattle.circuit.specs.declared.netlist.Drive.{Drive}
 use Rattle.circuit.specs.declared.netlist.By.{By}
 use Rattle.circuit.specs.declared.netlist.By.TheVariants as by
 use Rattle.driver_check.specs.Depends.{Bit}
-use Rattle.driver_check.specs.Ordered.{CellBit, Digit, InputBit, IsAmong, IsFinal, IsNode, IsOrdered, IsThere, ReadBit, RegBit, Source, source_at, source_by, source_within}
-use Rattle.driver_check.specs.Roots.{AreRoots, CoversIn, root_source}
-use Rattle.driver_check.specs.declared.plan.Node.{Node}
-use Rattle.driver_check.specs.declared.plan.Node.TheVariants as node
-use Rattle.driver_check.proofs.Given.{by_cell, root_fits}
+use Rattle.eval_plan.specs.Ordered.{CellBit, Digit, InputBit, IsAmong, IsFinal, IsOrdered, IsThere, ReadBit, RegBit, SourceBit, source_at, source_by, source_within}
+use Rattle.driver_check.specs.Nodes.{IsNode}
+use Rattle.eval_plan.specs.Roots.{AreRoots, CoversIn, root_source}
+use Rattle.driver_check.specs.declared.parts.Node.{Node}
+use Rattle.driver_check.specs.declared.parts.Node.TheVariants as node
+use Rattle.eval_plan.proofs.Given.{by_cell, root_fits}
 use Rattle.driver_check.proofs.Places.{within}
 use Rattle.signal_words.specs.Values.{digits_in}
 
 -- ---- sources
 
-abbrev source_digit : Circuit → State → List ℕ → Digits → Source → ℕ
+abbrev source_digit : Circuit → State → List ℕ → Digits → SourceBit → ℕ
 source_digit c state inputs digits (Digit d) = d
 source_digit c state inputs digits (InputBit n i) = bit_at (slice_index inputs n) i
 source_digit c state inputs digits (CellBit n i) = cell_digit digits (slice_get c.cells n) i
 source_digit c state inputs digits (RegBit n i) = bit_at (slice_index state.regs n) i
 source_digit c state inputs digits (ReadBit m n i) = read_digit digits (slice_get c.mems m) (slice_get state.mems m) n i
 
-of_some : (f : Source → ℕ) (x y : Source) → Some x ≡ Some y → f x ≡ f y
+of_some : (f : SourceBit → ℕ) (x y : SourceBit) → Some x ≡ Some y → f x ≡ f y
 of_some f x y e = ap f (cc e)
 
-right_by : (c : Circuit) (state : State) (inputs : List ℕ) (digits : Digits) (more : ℕ → ℕ → Option Source) → ((n i : ℕ) (o : Source) → more n i ≡ Some o → digits n i ≡ source_digit c state inputs digits o)
-    → (b : By) (i : ℕ) (o : Source) → source_by more b i ≡ Some o → given c state inputs digits b i ≡ source_digit c state inputs digits o
+right_by : (c : Circuit) (state : State) (inputs : List ℕ) (digits : Digits) (more : ℕ → ℕ → Option SourceBit) → ((n i : ℕ) (o : SourceBit) → more n i ≡ Some o → digits n i ≡ source_digit c state inputs digits o)
+    → (b : By) (i : ℕ) (o : SourceBit) → source_by more b i ≡ Some o → given c state inputs digits b i ≡ source_digit c state inputs digits o
 right_by c state inputs digits more ih (by.Const v) i o e = of_some (source_digit c state inputs digits) (Digit (bit_at v.number i)) o e
 right_by c state inputs digits more ih (by.Input n at) i o e = of_some (source_digit c state inputs digits) (InputBit n (at + i)) o e
 right_by c state inputs digits more ih (by.Wire n at) i o e = ih n (at + i) o e
@@ -42,13 +43,13 @@ right_by c state inputs digits more ih (by.Cell n at) i o e = of_some (source_di
 right_by c state inputs digits more ih (by.Reg n at) i o e = of_some (source_digit c state inputs digits) (RegBit n (at + i)) o e
 right_by c state inputs digits more ih (by.Read m n at) i o e = of_some (source_digit c state inputs digits) (ReadBit m n (at + i)) o e
 
-right_at : (c : Circuit) (state : State) (inputs : List ℕ) (digits : Digits) (more : ℕ → ℕ → Option Source) → ((n i : ℕ) (o : Source) → more n i ≡ Some o → digits n i ≡ source_digit c state inputs digits o)
-    → (bit : ℕ) (d : Option Drive) (o : Source) → source_at more bit d ≡ Some o → driven c state inputs digits bit d ≡ source_digit c state inputs digits o
+right_at : (c : Circuit) (state : State) (inputs : List ℕ) (digits : Digits) (more : ℕ → ℕ → Option SourceBit) → ((n i : ℕ) (o : SourceBit) → more n i ≡ Some o → digits n i ≡ source_digit c state inputs digits o)
+    → (bit : ℕ) (d : Option Drive) (o : SourceBit) → source_at more bit d ≡ Some o → driven c state inputs digits bit d ≡ source_digit c state inputs digits o
 right_at c state inputs digits more ih bit None o e = of_some (source_digit c state inputs digits) (Digit 0) o e
 right_at c state inputs digits more ih bit (Some d) o e = right_by c state inputs digits more ih d.by (bit - d.at) o e
 
 -- the digit of a bit is that of its source
-source_right : (c : Circuit) (state : State) (inputs : List ℕ) (digits : Digits) → IsValuation c state inputs digits → (s net bit : ℕ) (o : Source) → source_within c s net bit ≡ Some o → digits net bit ≡ source_digit c state inputs digits o
+source_right : (c : Circuit) (state : State) (inputs : List ℕ) (digits : Digits) → IsValuation c state inputs digits → (s net bit : ℕ) (o : SourceBit) → source_within c s net bit ≡ Some o → digits net bit ≡ source_digit c state inputs digits o
 unfolding source_within
 source_right c state inputs digits v zero net bit o e = cc e
 source_right c state inputs digits v (suc s) net bit o e =
@@ -82,13 +83,13 @@ IsThereBy c nodes k (by.Read m n at) = IsNode c (node.Read m n) → IsAmong node
 abbrev pub AreRight : Circuit → List Node → List Drive → ℕ → Digits → List BitValue → Type 0
 AreRight c nodes roots k digits nets = (x : Bit) → ((i : ℕ) (r : Drive) → CoversIn roots i r x → IsThereBy c nodes k r.by) → digits_in nets x.0 x.1 ≡ digits x.0 x.1
 
-there_by : (c : Circuit) (nodes : List Node) (k : ℕ) (b : By) (i : ℕ) (o : Source) → root_source b i ≡ Some o → IsThere c nodes k o → IsThereBy c nodes k b
+there_by : (c : Circuit) (nodes : List Node) (k : ℕ) (b : By) (i : ℕ) (o : SourceBit) → root_source b i ≡ Some o → IsThere c nodes k o → IsThereBy c nodes k b
 there_by c nodes k (by.Const v) i o e t = tt
 there_by c nodes k (by.Input n at) i o e t = tt
 there_by c nodes k (by.Wire n at) i o e t = cc e
-there_by c nodes k (by.Cell n at) i o e t = let f : CellBit n (at + i) ≡ o = cc e in subst (λ (p : Source). IsThere c nodes k p) (sym f) t
+there_by c nodes k (by.Cell n at) i o e t = let f : CellBit n (at + i) ≡ o = cc e in subst (λ (p : SourceBit). IsThere c nodes k p) (sym f) t
 there_by c nodes k (by.Reg n at) i o e t = tt
-there_by c nodes k (by.Read m n at) i o e t = let f : ReadBit m n (at + i) ≡ o = cc e in subst (λ (p : Source). IsThere c nodes k p) (sym f) t
+there_by c nodes k (by.Read m n at) i o e t = let f : ReadBit m n (at + i) ≡ o = cc e in subst (λ (p : SourceBit). IsThere c nodes k p) (sym f) t
 
 -- a final bit has its digit
 pub final_right : (c : Circuit) (nodes : List Node) (roots : List Drive) (k : ℕ) (digits : Digits) (nets : List BitValue) → AreRoots c roots → AreRight c nodes roots k digits nets
@@ -99,7 +100,7 @@ final_right c nodes roots k digits nets are right net bit final =
     there_by c nodes k r.by (bit - r.at) n.1 n.3 (final n.0 n.1 n.2))
 
 -- behind all nodes all bits have their digits
-all_there : (c : Circuit) (nodes : List Node) (width : ℕ) (b : By) (i : ℕ) (o : Source) → IsOrdered c nodes → driver_fits c width b ≡ true → root_source b i ≡ Some o → IsThereBy c nodes (length nodes) b
+all_there : (c : Circuit) (nodes : List Node) (width : ℕ) (b : By) (i : ℕ) (o : SourceBit) → IsOrdered c nodes → driver_fits c width b ≡ true → root_source b i ≡ Some o → IsThereBy c nodes (length nodes) b
 all_there c nodes width (by.Const v) i o order fits e = tt
 all_there c nodes width (by.Input n at) i o order fits e = tt
 all_there c nodes width (by.Wire n at) i o order fits e = cc e

@@ -18,14 +18,15 @@ use Rattle.circuit.specs.declared.memory.ReadPort.{ReadPort}
 use Rattle.circuit.specs.declared.store.Store.{Store}
 use Rattle.circuit.proofs.Same.{cell_same, sig_same}
 use Rattle.driver_check.specs.Depends.{Bit, CellReads, MemReads, PortReads}
-use Rattle.driver_check.specs.Ordered.{IsNode, IsOrdered}
-use Rattle.driver_check.specs.Roots.{AreRoots, CoversIn}
-use Rattle.driver_check.specs.Sources.{AreSources, RootBy, TakesPart}
-use Rattle.driver_check.specs.Tables.{Lists}
-use Rattle.driver_check.specs.declared.plan.Node.{Node}
-use Rattle.driver_check.specs.declared.plan.Node.TheVariants as node
-use Rattle.driver_check.specs.declared.sources.Sources.{Sources}
-use Rattle.driver_check.proofs.Given.{root_fits}
+use Rattle.driver_check.specs.Nodes.{IsNode}
+use Rattle.eval_plan.specs.Ordered.{IsOrdered}
+use Rattle.eval_plan.specs.Roots.{AreRoots, CoversIn}
+use Rattle.eval_plan.specs.Sources.{AreSources, RootBy, TakesPart}
+use Rattle.eval_plan.specs.Tables.{Lists}
+use Rattle.driver_check.specs.declared.parts.Node.{Node}
+use Rattle.driver_check.specs.declared.parts.Node.TheVariants as node
+use Rattle.eval_plan.specs.declared.sources.Sources.{Sources}
+use Rattle.eval_plan.proofs.Given.{root_fits}
 use Rattle.driver_check.proofs.Places.{found, same, within}
 use Rattle.memory_cells.specs.Rows.{RowValues}
 use Rattle.signal_words.specs.Stores.{IsStoreOf}

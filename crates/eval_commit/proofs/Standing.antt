@@ -13,7 +13,7 @@ use Rattle.circuit.specs.declared.memory.Mem.{Mem}
 use Rattle.circuit.specs.declared.memory.ReadPort.{ReadPort}
 use Rattle.circuit.specs.declared.register.Reg.{Reg}
 use Rattle.circuit.specs.declared.store.Store.{Store}
-use Rattle.driver_check.specs.declared.plan.Plan.{Plan}
+use Rattle.eval_plan.specs.declared.plan.Plan.{Plan}
 use Rattle.memory_cells.specs.Rows.{RowValues, start_rows}
 use Rattle.signal_words.specs.Stores.{IsStoreOf}
 use Rattle.signal_words.specs.Values.{numbers, widths}

@@ -14,7 +14,7 @@ use Rattle.circuit.specs.declared.netlist.Circuit.{Circuit}
 use Rattle.circuit.specs.declared.netlist.Drive.{Drive}
 use Rattle.circuit.specs.declared.netlist.Net.{Net}
 use Rattle.circuit.proofs.Gathered.{gathered_below, gathered_bit}
-use Rattle.driver_check.specs.Roots.{AreRoots}
+use Rattle.eval_plan.specs.Roots.{AreRoots}
 use Rattle.driver_check.proofs.Fitting.{fits_inside}
 use Rattle.driver_check.proofs.Owned.{covers_parts}
 use Rattle.driver_check.proofs.Places.{found, same}

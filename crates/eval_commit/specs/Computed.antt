@@ -7,10 +7,10 @@ use Rattle.circuit.specs.declared.netlist.Circuit.{Circuit}
 use Rattle.circuit.specs.declared.cell.Cell.{Cell}
 use Rattle.circuit.specs.declared.memory.Mem.{Mem}
 use Rattle.circuit.specs.declared.memory.ReadPort.{ReadPort}
-use Rattle.driver_check.specs.Sources.{cell_row, read_row}
-use Rattle.driver_check.specs.declared.plan.Node.{Node}
-use Rattle.driver_check.specs.declared.plan.Node.TheVariants as node
-use Rattle.driver_check.specs.declared.sources.Sources.{Sources}
+use Rattle.eval_plan.specs.Sources.{cell_row, read_row}
+use Rattle.driver_check.specs.declared.parts.Node.{Node}
+use Rattle.driver_check.specs.declared.parts.Node.TheVariants as node
+use Rattle.eval_plan.specs.declared.sources.Sources.{Sources}
 use Rattle.memory_cells.specs.Rows.{AreRowsOf, RowValues}
 
 -- the places of the roots that take from a node

@@ -5,7 +5,7 @@ use Rattle.circuit.specs.declared.netlist.Drive.{Drive}
 use Rattle.circuit.specs.declared.netlist.By.{By}
 use Rattle.circuit.specs.declared.netlist.By.TheVariants as by
 use Rattle.driver_check.specs.Depends.{Bit}
-use Rattle.driver_check.specs.Roots.{CoversIn}
+use Rattle.eval_plan.specs.Roots.{CoversIn}
 use Rattle.signal_words.specs.Values.{digits_in}
 use Rattle.eval_commit.specs.Spread.{offset_of, taken_digit}
 

@@ -8,7 +8,7 @@ use Rattle.circuit.specs.declared.memory.Mem.{Mem}
 use Rattle.circuit.specs.declared.memory.ReadPort.{ReadPort}
 use Rattle.circuit.specs.declared.store.Store.{Store}
 use Rattle.driver_check.specs.Depends.{Bit}
-use Rattle.driver_check.specs.Roots.{CoversIn}
+use Rattle.eval_plan.specs.Roots.{CoversIn}
 use Rattle.memory_cells.specs.Rows.{RowValues}
 use Rattle.signal_words.specs.Values.{digits_in, numbers, widths}
 

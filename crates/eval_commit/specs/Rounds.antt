@@ -1,14 +1,9 @@
 -- A circuit whose rounds are done over stores.
-use Rattle.std.specs.Prelude.{◌≡◌, List, length, map, true}
-use Rattle.circuit.specs.Acyclic.{IsInOrder}
+use Rattle.std.specs.Prelude.{◌≡◌, List, length, map}
 use Rattle.circuit.specs.Rounds.{Standing}
 use Rattle.circuit.specs.State.{State}
-use Rattle.circuit.specs.Valid.{is_valid}
 use Rattle.circuit.specs.declared.netlist.Circuit.{Circuit}
-use Rattle.driver_check.specs.Ordered.{IsOrdered}
-use Rattle.driver_check.specs.Roots.{AreRoots}
-use Rattle.driver_check.specs.Sources.{AreSources}
-use Rattle.driver_check.specs.declared.plan.Plan.{Plan}
+use Rattle.eval_plan.specs.declared.plan.Plan.{Plan}
 use Rattle.sim_base.specs.BitValue.{BitValue}
 use Rattle.signal_words.specs.Stores.{IsStoreOf}
 use Rattle.signal_words.specs.Values.{numbers, widths}
@@ -16,14 +11,6 @@ use Rattle.eval_commit.specs.Computed.{AreAllRows}
 use Rattle.eval_commit.specs.Round.{IsBlank}
 use Rattle.eval_commit.specs.Stored.{kept_state}
 use Rattle.eval_commit.specs.declared.step.Rounds.{Rounds}
-
--- a plan of a valid circuit in order
-pub record IsPlanOf (c : Circuit) (plan : Plan) : Type 0 where
-  pub valid : is_valid c ≡ true
-  pub order : IsInOrder c
-  pub nodes : IsOrdered c plan.nodes
-  pub roots : AreRoots c plan.roots
-  pub sources : AreSources c plan.roots plan.sources
 
 -- a value for each read port, of the width of a row
 abbrev pub ArePortsOf : Circuit → List (List BitValue) → Type 0

@@ -6,7 +6,7 @@ use Rattle.circuit.specs.declared.netlist.Drive.{Drive}
 use Rattle.circuit.specs.declared.netlist.By.{By}
 use Rattle.circuit.specs.declared.netlist.By.TheVariants as by
 use Rattle.driver_check.specs.Depends.{Bit}
-use Rattle.driver_check.specs.Roots.{CoversIn}
+use Rattle.eval_plan.specs.Roots.{CoversIn}
 use Rattle.signal_words.specs.Values.{digits_in, width_at}
 
 -- the first bit that is taken of what drives
@@ -21,10 +21,6 @@ offset_of (by.Read m n at) = at
 -- the digit that a root takes for a bit from a number
 abbrev pub taken_digit : ℕ → Drive → Bit → ℕ
 taken_digit number r x = bit_at number (offset_of r.by + (x.1 - r.at))
-
--- no two roots share a bit
-abbrev pub AreApart : List Drive → Type 0
-AreApart roots = (i j : ℕ) (r q : Drive) (x : Bit) → CoversIn roots i r x → CoversIn roots j q x → i ≡ j
 
 -- a root lies inside the value of its net
 abbrev pub IsRootInside : List BitValue → Drive → Type 0

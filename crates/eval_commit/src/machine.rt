@@ -10,13 +10,13 @@ ghost use Rattle.signal_words.specs.Values.{numbers};
 ghost use Rattle.eval_commit.specs.Fired.{none_fired};
 ghost use Rattle.eval_commit.specs.Machine.{after_sample, rounds_of_sample};
 ghost use Rattle.eval_commit.specs.Round.{AreInputsOf};
-ghost use Rattle.eval_commit.specs.Rounds.{IsPlanOf};
+ghost use Rattle.eval_plan.specs.Plans.{IsPlanOf};
 ghost use Rattle.eval_commit.specs.declared.settle.Settled.TheVariants as settled_as;
 
 use crate::settle::Settled;
 use crate::step::Rounds;
 use circuit::Circuit;
-use driver_check::Plan;
+use eval_plan::Plan;
 use sim_base::{Bits, NoMemory, Steps};
 use std::alloc::Global;
 use std::marker::Model;
@@ -39,7 +39,8 @@ impl Model for Machine {
     ghost use Rattle.std.specs.Arc.{arc_value};
     ghost use Rattle.eval_commit.specs.Fired.{none_fired};
     ghost use Rattle.eval_commit.specs.Machine.{MachineState};
-    ghost use Rattle.eval_commit.specs.Rounds.{AreRoundsOf, IsPlanOf, standing_of};
+    ghost use Rattle.eval_plan.specs.Plans.{IsPlanOf};
+    ghost use Rattle.eval_commit.specs.Rounds.{AreRoundsOf, standing_of};
 
     ghost Value = { MachineState };
 

@@ -6,7 +6,8 @@ ghost use Rattle.circuit.specs.Valuation.{covers};
 ghost use Rattle.circuit.specs.declared.netlist.Drive.{Drive as TheDrive};
 ghost use Rattle.driver_check.specs.Depends.{Bit};
 ghost use Rattle.signal_words.specs.Values.{digits_in, width_at, widths};
-ghost use Rattle.eval_commit.specs.Spread.{AreApart, AreRootsInside, IsRootInside, IsSpread, offset_of, taken_digit};
+ghost use Rattle.eval_plan.specs.Roots.{AreApart};
+ghost use Rattle.eval_commit.specs.Spread.{AreRootsInside, IsRootInside, IsSpread, offset_of, taken_digit};
 ghost use Rattle.eval_commit.specs.Held.{HasKept, IsSeeded, Kept, is_kept, kept_value};
 
 use circuit::{By, Drive, Values};

@@ -4,13 +4,14 @@ ghost use Rattle.circuit.specs.Rounds.{rounds_from, settled};
 ghost use Rattle.circuit.specs.Shown.{fires_by};
 ghost use Rattle.signal_words.specs.Values.{numbers};
 ghost use Rattle.eval_commit.specs.Round.{AreInputsOf};
-ghost use Rattle.eval_commit.specs.Rounds.{AreRoundsOf, IsPlanOf, standing_of};
+ghost use Rattle.eval_plan.specs.Plans.{IsPlanOf};
+ghost use Rattle.eval_commit.specs.Rounds.{AreRoundsOf, standing_of};
 ghost use Rattle.eval_commit.specs.declared.settle.Settled.TheVariants as settled_as;
 
 use crate::diagnostics::clear_fired;
 use crate::step::Rounds;
 use circuit::Circuit;
-use driver_check::Plan;
+use eval_plan::Plan;
 use sim_base::{Bits, Steps};
 use std::sync::ledger::Ledger;
 

@@ -9,7 +9,7 @@ use Rattle.std.proofs.lemmas.List.{length-set, get_or-set_same, get_or-set_other
 use Rattle.std.proofs.lemmas.Nat.Bits.{same_from_bits_below}
 use Rattle.std.specs.Int.{bit_at}
 use Rattle.circuit.specs.Signal.{Digits, sig_number}
-use Rattle.circuit.specs.Next.{all_marked, has_edge, next_row, next_rows, written}
+use Rattle.circuit.specs.Next.{all_marked, has_edge, next_row, next_rows, highest_write}
 use Rattle.circuit.specs.State.{is_inside}
 use Rattle.circuit.specs.declared.memory.Mem.{Mem}
 use Rattle.circuit.specs.declared.memory.WritePort.{WritePort}
@@ -41,8 +41,8 @@ after_all_twice before now m address own =
     same_from_bits_below m.width _ _ (row_after_below before now m.width address marks m.writes (after_all before now m address own)) (row_after_below before now m.width address marks m.writes own)
     (λ i lt.
     row_after_bit before now m.width address marks m.writes (after_all before now m address own) i lt
-    ∙ ap (unwrap_or (written before now address i marks m.writes)) (row_after_bit before now m.width address marks m.writes own i lt)
-    ∙ twice (written before now address i marks m.writes) (bit_at own i)
+    ∙ ap (unwrap_or (highest_write before now address i marks m.writes)) (row_after_bit before now m.width address marks m.writes own i lt)
+    ∙ twice (highest_write before now address i marks m.writes) (bit_at own i)
     ∙ sym (row_after_bit before now m.width address marks m.writes own i lt))
 
 -- ---- no port
@@ -56,12 +56,12 @@ no_one false there bit n x e = refl
 no_one true false bit n x e = refl
 no_one true true bit n x e = cc
 
-no_digit : (before now : Digits) (address i : ℕ) (ports : List WritePort) → some_writes before now address ports ≡ false → (x : ℕ) → unwrap_or (written before now address i (all_marked ports) ports) x ≡ x
+no_digit : (before now : Digits) (address i : ℕ) (ports : List WritePort) → some_writes before now address ports ≡ false → (x : ℕ) → unwrap_or (highest_write before now address i (all_marked ports) ports) x ≡ x
 no_digit before now address i [] none x = ap (λ o. unwrap_or o x) (written_nil before now address i [])
 no_digit before now address i (p ∷ ports) none x =
     let t = neither (writes_to before now address p) (some_writes before now address ports) none in
     ap (λ o. unwrap_or o x) (written_cons before now address i true (all_marked ports) p ports)
-    ∙ unwrap_or_else (written before now address i (all_marked ports) ports) (one before now address i true p) x
+    ∙ unwrap_or_else (highest_write before now address i (all_marked ports) ports) (one before now address i true p) x
     ∙ no_digit before now address i ports t.1 (unwrap_or (one before now address i true p) x)
     ∙ no_one (has_edge p.rising before now p.clk) (eqb (sig_number now p.addr) address) (eqb (bit_at (sig_number now p.en) i) 1) (bit_at (sig_number now p.word) i) x t.0
 

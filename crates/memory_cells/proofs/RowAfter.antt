@@ -5,7 +5,7 @@ use Rattle.std.proofs.lemmas.List.{take_more, length-map, length-take-le}
 use Rattle.std.proofs.lemmas.Nat.Bits.{bit_at-lt, same_from_bits_below}
 use Rattle.std.specs.Int.{bit_at}
 use Rattle.circuit.specs.Signal.{Digits, gathered, sig_number}
-use Rattle.circuit.specs.Next.{all_marked, has_edge, or_else, writes_at, written}
+use Rattle.circuit.specs.Next.{all_marked, has_edge, or_else, writes_at, highest_write}
 use Rattle.circuit.specs.declared.memory.WritePort.{WritePort}
 use Rattle.circuit.proofs.Gathered.{gathered_bit, gathered_below}
 use Rattle.memory_cells.specs.Ports.{row_by}
@@ -17,7 +17,7 @@ one before now address i mark p = if mark && writes_at before now address i p th
 
 -- the digit of a bit after these ports
 abbrev pub digit_after : Digits → Digits → ℕ → List Bool → List WritePort → ℕ → ℕ → ℕ
-digit_after before now address marks ports own i = unwrap_or (written before now address i marks ports) (bit_at own i)
+digit_after before now address marks ports own i = unwrap_or (highest_write before now address i marks ports) (bit_at own i)
 
 abbrev pub row_after : Digits → Digits → ℕ → ℕ → List Bool → List WritePort → ℕ → ℕ
 row_after before now width address marks ports own = gathered (digit_after before now address marks ports own) width
@@ -34,21 +34,21 @@ pub unwrap_or_else : (a b : Option ℕ) (x : ℕ) → unwrap_or (or_else a b) x 
 unwrap_or_else (Some n) b x = refl
 unwrap_or_else None b x = refl
 
-pub written_cons : (before now : Digits) (address i : ℕ) (mark : Bool) (marks : List Bool) (p : WritePort) (ports : List WritePort) → written before now address i (mark ∷ marks) (p ∷ ports) ≡ or_else (written before now address i marks ports) (one before now address i mark p)
-unfolding written
+pub written_cons : (before now : Digits) (address i : ℕ) (mark : Bool) (marks : List Bool) (p : WritePort) (ports : List WritePort) → highest_write before now address i (mark ∷ marks) (p ∷ ports) ≡ or_else (highest_write before now address i marks ports) (one before now address i mark p)
+unfolding highest_write
 written_cons before now address i mark marks p ports = refl
 
-pub written_nil : (before now : Digits) (address i : ℕ) (marks : List Bool) → written before now address i marks [] ≡ None
-unfolding written
+pub written_nil : (before now : Digits) (address i : ℕ) (marks : List Bool) → highest_write before now address i marks [] ≡ None
+unfolding highest_write
 written_nil before now address i marks = refl
 
-written_unmarked : (before now : Digits) (address i : ℕ) (p : WritePort) (ports : List WritePort) → written before now address i [] (p ∷ ports) ≡ None
-unfolding written
+written_unmarked : (before now : Digits) (address i : ℕ) (p : WritePort) (ports : List WritePort) → highest_write before now address i [] (p ∷ ports) ≡ None
+unfolding highest_write
 written_unmarked before now address i p ports = refl
 
 -- a port more
 written_more : (before now : Digits) (address i : ℕ) (marks : List Bool) (ports : List WritePort) (mark : Bool) (p : WritePort) → length marks ≡ length ports
-    → written before now address i (marks ++ mark ∷ []) (ports ++ p ∷ []) ≡ or_else (one before now address i mark p) (written before now address i marks ports)
+    → highest_write before now address i (marks ++ mark ∷ []) (ports ++ p ∷ []) ≡ or_else (one before now address i mark p) (highest_write before now address i marks ports)
 written_more before now address i [] [] mark p e =
     written_cons before now address i mark [] p [] ∙ ap (λ o. or_else o (one before now address i mark p)) (written_nil before now address i []) ∙ sym (or_else_none (one before now address i mark p)) ∙ ap (or_else (one before now address i mark p)) (sym (written_nil before now address i []))
 written_more before now address i [] (q ∷ ports) mark p e = absurd (omega arith)
@@ -56,19 +56,19 @@ written_more before now address i (m ∷ marks) [] mark p e = absurd (omega arit
 written_more before now address i (m ∷ marks) (q ∷ ports) mark p e =
     written_cons before now address i m (marks ++ mark ∷ []) q (ports ++ p ∷ [])
     ∙ ap (λ o. or_else o (one before now address i m q)) (written_more before now address i marks ports mark p (omega arith))
-    ∙ or_else_assoc (one before now address i mark p) (written before now address i marks ports) (one before now address i m q)
+    ∙ or_else_assoc (one before now address i mark p) (highest_write before now address i marks ports) (one before now address i m q)
     ∙ ap (or_else (one before now address i mark p)) (sym (written_cons before now address i m marks q ports))
 
 one_below : (b : Bool) (n x y : ℕ) → n < 2 → x < 2 → unwrap_or (if b then Some n else None) x < 2
 one_below true n x y a b = a
 one_below false n x y a b = b
 
-written_below : (before now : Digits) (address i : ℕ) (marks : List Bool) (ports : List WritePort) (x : ℕ) → x < 2 → unwrap_or (written before now address i marks ports) x < 2
+written_below : (before now : Digits) (address i : ℕ) (marks : List Bool) (ports : List WritePort) (x : ℕ) → x < 2 → unwrap_or (highest_write before now address i marks ports) x < 2
 written_below before now address i marks [] x lt = rw (written_nil before now address i marks) lt
 written_below before now address i [] (p ∷ ports) x lt = rw (written_unmarked before now address i p ports) lt
 written_below before now address i (mark ∷ marks) (p ∷ ports) x lt =
     rw (written_cons before now address i mark marks p ports)
-    (rw (unwrap_or_else (written before now address i marks ports) (one before now address i mark p) x)
+    (rw (unwrap_or_else (highest_write before now address i marks ports) (one before now address i mark p) x)
     (written_below before now address i marks ports (unwrap_or (one before now address i mark p) x) (one_below (mark && writes_at before now address i p) (bit_at (sig_number now p.word) i) x x (bit_at-lt (sig_number now p.word) i) lt)))
 
 pub digit_after_below : (before now : Digits) (address : ℕ) (marks : List Bool) (ports : List WritePort) (own i : ℕ) → digit_after before now address marks ports own i < 2
@@ -111,7 +111,7 @@ row_after_more before now w address marks ports mark p own e =
     (λ i lt.
     row_after_bit before now w address (marks ++ mark ∷ []) (ports ++ p ∷ []) own i lt
     ∙ ap (λ o. unwrap_or o (bit_at own i)) (written_more before now address i marks ports mark p e)
-    ∙ unwrap_or_else (one before now address i mark p) (written before now address i marks ports) (bit_at own i)
+    ∙ unwrap_or_else (one before now address i mark p) (highest_write before now address i marks ports) (bit_at own i)
     ∙ ap (unwrap_or (one before now address i mark p)) (sym (row_after_bit before now w address marks ports own i lt))
     ∙ one_digit mark (has_edge p.rising before now p.clk) (eqb (sig_number now p.addr) address) (sig_number now p.en) (sig_number now p.word) row w i lt)
 

@@ -1,7 +1,8 @@
 //! Which roots take from a source, and which nodes read a root.
 use super::{Driver, Rows, circuit_of, part, zeros};
 use circuit::{Circuit, Item, ItemKind, Polarity, Reg, RegKind};
-use driver_check::{Node, Plan, order};
+use driver_check::Node;
+use eval_plan::{Plan, order};
 use sim_base::{Bits, Name, NoMemory};
 use sqlite_items::Items;
 use std::alloc::Global;

@@ -1,12 +1,12 @@
 //! Circuits from sample to sample.
 ghost use Rattle.std.specs.Prelude.{◌≡◌, ◌<◌, IfOk};
 ghost use Rattle.std.specs.Arc.{arc_value};
-ghost use Rattle.eval_commit.specs.Rounds.{IsPlanOf};
+ghost use Rattle.eval_plan.specs.Plans.{IsPlanOf};
 
 use crate::machine::{cell_inputs, number_of};
 use circuit::Circuit;
-use driver_check::{Plan, order};
 use eval_commit::{Machine, Settled};
+use eval_plan::{Plan, order};
 use sim_base::{Bits, NoMemory, Steps};
 use std::alloc::Global;
 use std::marker::Brand;

@@ -3,7 +3,7 @@ use Rattle.std.specs.Prelude.{slice_get, slice_index}
 use Rattle.circuit.specs.declared.netlist.Drive.{Drive}
 use Rattle.circuit.specs.declared.netlist.Net.{Net}
 use Rattle.driver_check.specs.Numbers.{IsIn, IsInsideNet, start_of}
-use Rattle.driver_check.specs.Owners.{IsLeastShared}
+use Rattle.driver_check.specs.Invariants.{IsLeastShared}
 use Rattle.driver_check.proofs.Places.{read}
 use Rattle.driver_check.proofs.Fitting.{drives_inside}
 use Rattle.driver_check.proofs.Owned.{shared_more}

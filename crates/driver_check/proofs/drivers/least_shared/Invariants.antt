@@ -1,4 +1,4 @@
-use Rattle.driver_check.specs.Owners.{IsLeastShared}
+use Rattle.driver_check.specs.Invariants.{IsLeastShared}
 use Rattle.driver_check.proofs.drivers.least_shared.Given as goal
 
 abbrev pub invariant-loop-place : goal.invariant-loop-place

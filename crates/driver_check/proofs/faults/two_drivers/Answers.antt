@@ -3,7 +3,7 @@ use Rattle.std.specs.Prelude.{slice_index}
 use Rattle.std.proofs.lemmas.Result.{IfOk-weaker}
 use Rattle.circuit.specs.declared.netlist.Drive.{Drive}
 use Rattle.driver_check.specs.Faults.{SaysTwoDrivers, says_two_drivers}
-use Rattle.driver_check.specs.Owners.{IsNextCover}
+use Rattle.driver_check.specs.Invariants.{IsNextCover}
 use Rattle.driver_check.proofs.Fitting.{drives_inside}
 use Rattle.driver_check.proofs.Owned.{first_shared, owner_covers, owner_there}
 use Rattle.driver_check.proofs.faults.two_drivers.Goals as goal

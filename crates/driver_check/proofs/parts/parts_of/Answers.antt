@@ -1,7 +1,7 @@
 use Rattle.std.proofs.Common.{◌≡◌, ℕ, ◌+◌, List, length, ap, subst, arith, ◌∙◌, Some}
 use Rattle.std.specs.Prelude.{slice_get}
 use Rattle.circuit.specs.declared.memory.Mem.{Mem}
-use Rattle.driver_check.specs.Numbers.{before, ports_of}
+use Rattle.driver_check.specs.Numbers.{before, read_count}
 use Rattle.driver_check.proofs.Places.{read}
 use Rattle.driver_check.proofs.Fitting.{port_count}
 use Rattle.driver_check.proofs.Numbered.{before_zero}
@@ -10,7 +10,7 @@ use Rattle.driver_check.proofs.parts.parts_of.Goals as goal
 
 pub loop-place-init : goal.loop-place-init
 loop-place-init c =
-    let none = before_zero ports_of c.args.circuit.now.mems in
+    let none = before_zero read_count c.args.circuit.now.mems in
     record {
       long = omega (arith, c.in_ok-push_cells.ensures.long, none);
       placed = c.in_ok-push_cells.ensures.placed;
@@ -31,8 +31,8 @@ pub returns : goal.returns
 returns c =
     let circuit = c.args.circuit.now in
     let end : c.loop-place.place ≡ length circuit.mems = omega (arith, ap (λ (xs : List Mem). length xs) c.as_slice-mem-items.ensures) in
-    let long : length c.loop-place.nodes.items ≡ length circuit.cells + before ports_of circuit.mems (length circuit.mems) =
-    c.loop-place.invariant.long ∙ ap (λ (n : ℕ). length circuit.cells + before ports_of circuit.mems n) end in
+    let long : length c.loop-place.nodes.items ≡ length circuit.cells + before read_count circuit.mems (length circuit.mems) =
+    c.loop-place.invariant.long ∙ ap (λ (n : ℕ). length circuit.cells + before read_count circuit.mems n) end in
     record {
       long = long;
       placed = c.loop-place.invariant.placed;

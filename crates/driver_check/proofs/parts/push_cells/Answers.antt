@@ -1,7 +1,7 @@
 use Rattle.std.proofs.Common.{◌≡◌, ℕ, ◌+◌, List, ◌++◌, ◌∷◌, [], sym, ap, subst, arith, ◌∙◌}
-use Rattle.driver_check.specs.Vertices.{ArePlaced}
-use Rattle.driver_check.specs.declared.plan.Node.{Node}
-use Rattle.driver_check.specs.declared.plan.Node.TheVariants as node
+use Rattle.driver_check.specs.Nodes.{ArePlaced}
+use Rattle.driver_check.specs.declared.parts.Node.{Node}
+use Rattle.driver_check.specs.declared.parts.Node.TheVariants as node
 use Rattle.driver_check.proofs.Places.{length_pushed, within}
 use Rattle.driver_check.proofs.Placed.{placed_more}
 use Rattle.driver_check.proofs.parts.push_cells.Goals as goal

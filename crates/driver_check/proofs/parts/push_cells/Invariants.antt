@@ -1,5 +1,5 @@
 use Rattle.std.proofs.Common.{◌≡◌, length}
-use Rattle.driver_check.specs.Vertices.{ArePlaced}
+use Rattle.driver_check.specs.Nodes.{ArePlaced}
 use Rattle.driver_check.proofs.parts.push_cells.Given as goal
 
 abbrev pub invariant-loop-cell : goal.invariant-loop-cell

@@ -1,8 +1,8 @@
 use Rattle.std.proofs.Common.{◌≡◌, List, ◌++◌, ◌∷◌, [], sym, subst, arith}
-use Rattle.driver_check.specs.Numbers.{ports_of}
-use Rattle.driver_check.specs.Vertices.{ArePlaced}
-use Rattle.driver_check.specs.declared.plan.Node.{Node}
-use Rattle.driver_check.specs.declared.plan.Node.TheVariants as node
+use Rattle.driver_check.specs.Numbers.{read_count}
+use Rattle.driver_check.specs.Nodes.{ArePlaced}
+use Rattle.driver_check.specs.declared.parts.Node.{Node}
+use Rattle.driver_check.specs.declared.parts.Node.TheVariants as node
 use Rattle.driver_check.proofs.Places.{length_pushed}
 use Rattle.driver_check.proofs.Numbered.{before_next}
 use Rattle.driver_check.proofs.Placed.{placed_more}
@@ -21,5 +21,5 @@ loop-port-preserved c =
 
 pub returns-clause-long : goal.returns-clause-long
 returns-clause-long c =
-    let next = before_next ports_of c.args.circuit.now.mems c.args.place c.args.mem.now c.requires.there in
+    let next = before_next read_count c.args.circuit.now.mems c.args.place c.args.mem.now c.requires.there in
     omega (arith, next, c.loop-port.invariant.long)

@@ -2,7 +2,7 @@ use Rattle.std.proofs.Common.{◌≡◌, ℕ, ◌-◌, ◌≤◌, List, length, 
 use Rattle.std.specs.Prelude.{slice_get, slice_index}
 use Rattle.circuit.specs.declared.netlist.Drive.{Drive}
 use Rattle.circuit.specs.declared.netlist.Net.{Net}
-use Rattle.driver_check.specs.Numbers.{IsInsideNet, number_of, start_of}
+use Rattle.driver_check.specs.Numbers.{IsInsideNet, bit_number, start_of}
 use Rattle.driver_check.specs.Owners.{IsOwner}
 use Rattle.driver_check.specs.Vertices.{by_span, drive_span}
 use Rattle.driver_check.proofs.Places.{read}
@@ -66,5 +66,5 @@ returns c = λ x bit is.
     let owns : IsOwner circuit (length circuit.drives) x place = subst (λ (v : ℕ). IsOwner circuit (length circuit.drives) x (slice_index c.args.owners.now v)) is (c.requires.owners x bit) in
     let start : c.start-start.result ≡ start_of circuit.nets d = c.start-start.ensures.value ∙ ap (λ (nets : List Net). start_of nets d) c.as_slice.ensures in
     let offset : c.args.number - c.start-start.result ≡ x.1 - d.at =
-    ap (λ (v : ℕ). v - c.start-start.result) (sym is) ∙ ap (λ (v : ℕ). number_of circuit.nets x - v) start ∙ offset_is circuit x d (owner_has circuit x place d owns at) in
+    ap (λ (v : ℕ). v - c.start-start.result) (sym is) ∙ ap (λ (v : ℕ). bit_number circuit.nets x - v) start ∙ offset_is circuit x d (owner_has circuit x place d owns at) in
     c.drive_span.ensures ∙ ap (λ (i : ℕ). by_span circuit d.by i) offset ∙ sym (ap (λ (m : Option Drive). drive_span circuit m x.1) (owner_drive circuit x place d owns at))

@@ -3,8 +3,9 @@ use Rattle.std.specs.Prelude.{slice_get}
 use Rattle.circuit.specs.declared.netlist.By.{By}
 use Rattle.circuit.specs.declared.netlist.Net.{Net}
 use Rattle.driver_check.specs.Numbers.{before, bit_count, width_of}
-use Rattle.driver_check.specs.Vertices.{by_span, place_of, span_of}
-use Rattle.driver_check.specs.declared.plan.Node.TheVariants as node
+use Rattle.driver_check.specs.Vertices.{by_span, span_of}
+use Rattle.driver_check.specs.Nodes.{part_place}
+use Rattle.driver_check.specs.declared.parts.Node.TheVariants as node
 use Rattle.driver_check.proofs.Fitting.{bits_bound, cell_count, cell_there, net_width, port_there, wire_there}
 use Rattle.driver_check.proofs.rows.drive_span.Goals as goal
 
@@ -52,6 +53,6 @@ returns-in-Cell c =
 
 pub returns-in-Read : goal.returns-in-Read
 returns-in-Read c =
-    let e : c.args.numbering.now.bits + c.port_place.result ≡ bit_count c.args.circuit.now.nets + place_of c.args.circuit.now (node.Read c.in-Read.mem c.in-Read.port) =
+    let e : c.args.numbering.now.bits + c.port_place.result ≡ bit_count c.args.circuit.now.nets + part_place c.args.circuit.now (node.Read c.in-Read.mem c.in-Read.port) =
     ap (λ (n : ℕ). n + c.port_place.result) c.requires.numbers.total ∙ ap (λ (n : ℕ). bit_count c.args.circuit.now.nets + n) c.port_place.ensures.value in
     ap (λ (n : ℕ). span_of n 1) e ∙ sym (ap (λ (b : By). by_span c.args.circuit.now b c.args.offset) c.in-Read.is)

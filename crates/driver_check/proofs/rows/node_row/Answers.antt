@@ -5,9 +5,10 @@ use Rattle.circuit.specs.declared.netlist.Circuit.{Circuit}
 use Rattle.circuit.specs.declared.cell.Cell.{Cell}
 use Rattle.circuit.specs.declared.memory.Mem.{Mem}
 use Rattle.circuit.specs.declared.memory.ReadPort.{ReadPort}
-use Rattle.driver_check.specs.Vertices.{IsPart, cell_spans, mem_spans, node_spans, port_spans}
-use Rattle.driver_check.specs.declared.plan.Node.{Node}
-use Rattle.driver_check.specs.declared.plan.Node.TheVariants as node
+use Rattle.driver_check.specs.Nodes.{IsPart}
+use Rattle.driver_check.specs.Vertices.{cell_spans, mem_spans, node_spans, port_spans}
+use Rattle.driver_check.specs.declared.parts.Node.{Node}
+use Rattle.driver_check.specs.declared.parts.Node.TheVariants as node
 use Rattle.driver_check.proofs.Places.{read, same, within}
 use Rattle.driver_check.proofs.Fitting.{cell_fits_at, port_fits_at}
 use Rattle.driver_check.proofs.rows.node_row.Goals as goal

@@ -1,5 +1,6 @@
 use Rattle.std.proofs.Common.{◌≡◌, ℕ, ◌<◌, length, []}
-use Rattle.driver_check.specs.Search.{Has, IsSearch, row_of, size_of_graph}
+use Rattle.driver_check.specs.Search.{Has, row_of, size_of_graph}
+use Rattle.driver_check.specs.Invariants.{IsSearch}
 use Rattle.driver_check.specs.declared.search.Mark.TheVariants as mark
 use Rattle.driver_check.proofs.search.sort.Given as goal
 

@@ -1,7 +1,8 @@
 use Rattle.std.proofs.Common.{◌≡◌, ℕ, List, length, sym, ap, subst, arith}
 use Rattle.circuit.specs.declared.netlist.Net.{Net}
 use Rattle.driver_check.specs.Numbers.{IsNumbering, before, width_of}
-use Rattle.driver_check.specs.Owners.{AreOwners, IsLeastShared}
+use Rattle.driver_check.specs.Owners.{AreOwners}
+use Rattle.driver_check.specs.Invariants.{IsLeastShared}
 use Rattle.driver_check.proofs.Fitting.{bits_bound, drives_inside}
 use Rattle.driver_check.proofs.Freedom.{graph_inside}
 use Rattle.driver_check.proofs.Owned.{once}

@@ -1,7 +1,7 @@
 use Rattle.std.proofs.Common.{◌≡◌, ◌+◌, List, ◌++◌, ◌∷◌, [], take, get_or, sym, subst, arith}
 use Rattle.std.proofs.lemmas.List.{take_more}
 use Rattle.std.proofs.lemmas.Option.{slice_get-get_or}
-use Rattle.driver_check.specs.Walking.{IsLeastStuck}
+use Rattle.driver_check.specs.Invariants.{IsLeastStuck}
 use Rattle.driver_check.specs.declared.graph.Span.{Span}
 use Rattle.driver_check.proofs.Nexts.{least_more}
 use Rattle.driver_check.proofs.walk.least_stuck.Goals as goal

@@ -1,5 +1,5 @@
 use Rattle.std.proofs.Common.{take}
-use Rattle.driver_check.specs.Walking.{IsLeastStuck}
+use Rattle.driver_check.specs.Invariants.{IsLeastStuck}
 use Rattle.driver_check.proofs.walk.least_stuck.Given as goal
 
 abbrev pub invariant-loop-span : goal.invariant-loop-span

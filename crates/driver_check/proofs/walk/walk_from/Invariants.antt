@@ -1,4 +1,4 @@
-use Rattle.driver_check.specs.Walking.{IsWalking}
+use Rattle.driver_check.specs.Invariants.{IsWalking}
 use Rattle.driver_check.proofs.walk.walk_from.Given as goal
 
 abbrev pub invariant-loop-turn : goal.invariant-loop-turn

@@ -2,7 +2,8 @@ use Rattle.std.proofs.Common.{◌≡◌, ℕ, ◌+◌, ◌<◌, ◌≤◌, List,
 use Rattle.std.specs.Prelude.{slice_get}
 use Rattle.std.proofs.lemmas.Option.{slice_get-get_or}
 use Rattle.std.proofs.lemmas.Result.{on_ok_weaker}
-use Rattle.driver_check.specs.Search.{IsSearch, Needs}
+use Rattle.driver_check.specs.Invariants.{IsSearch}
+use Rattle.driver_check.specs.Search.{Needs}
 use Rattle.driver_check.specs.declared.graph.Span.{Span}
 use Rattle.driver_check.specs.declared.search.Frame.{Frame}
 use Rattle.driver_check.proofs.Places.{last}

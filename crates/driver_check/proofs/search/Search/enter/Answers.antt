@@ -1,5 +1,5 @@
 use Rattle.std.proofs.Common.{◌≡◌, List, ◌++◌, ◌∷◌, [], set, sym, ap, ◌∙◌, subst}
-use Rattle.driver_check.specs.Search.{IsSearch}
+use Rattle.driver_check.specs.Invariants.{IsSearch}
 use Rattle.driver_check.specs.declared.search.Frame.{Frame}
 use Rattle.driver_check.specs.declared.search.Mark.TheVariants as mark
 use Rattle.driver_check.proofs.Steps.{grown, new_frame}

@@ -1,5 +1,5 @@
 use Rattle.std.proofs.Common.{ℕ, List, set, sym, subst}
-use Rattle.driver_check.specs.Search.{IsSearch}
+use Rattle.driver_check.specs.Invariants.{IsSearch}
 use Rattle.driver_check.specs.declared.search.Mark.TheVariants as mark
 use Rattle.driver_check.proofs.Steps.{finished, newer_set}
 use Rattle.driver_check.proofs.search.Search.finish.Goals as goal

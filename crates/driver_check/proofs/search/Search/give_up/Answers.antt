@@ -1,6 +1,7 @@
 use Rattle.std.proofs.Common.{◌≡◌, ℕ, List, ◌++◌, ◌∷◌, ◌⊎◌, [], sym, ◌∙◌, subst, Some}
 use Rattle.std.specs.Prelude.{slice_get}
-use Rattle.driver_check.specs.Search.{Has, IsSearch}
+use Rattle.driver_check.specs.Search.{Has}
+use Rattle.driver_check.specs.Invariants.{IsSearch}
 use Rattle.driver_check.specs.declared.search.Frame.{Frame}
 use Rattle.driver_check.specs.declared.search.Mark.TheVariants as mark
 use Rattle.driver_check.proofs.Steps.{unwound}

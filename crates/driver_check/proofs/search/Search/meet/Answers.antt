@@ -1,6 +1,7 @@
 use Rattle.std.proofs.Common.{◌≡◌, ℕ, ◌+◌, List, length, sym, ap, ◌∙◌, subst, refl, inl, inr, Some}
 use Rattle.std.specs.Prelude.{slice_get}
-use Rattle.driver_check.specs.Search.{Has, IsSearch}
+use Rattle.driver_check.specs.Search.{Has}
+use Rattle.driver_check.specs.Invariants.{IsSearch}
 use Rattle.driver_check.specs.declared.search.Frame.{Frame}
 use Rattle.driver_check.specs.declared.search.Mark.{Mark}
 use Rattle.driver_check.specs.declared.search.Mark.TheVariants as mark

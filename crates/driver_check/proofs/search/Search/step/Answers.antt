@@ -1,5 +1,6 @@
 use Rattle.std.proofs.Common.{List, ◌++◌, ◌∷◌, [], length, subst, arith}
-use Rattle.driver_check.specs.Search.{AreFramesInside, Needs, row_of}
+use Rattle.driver_check.specs.Invariants.{AreFramesInside}
+use Rattle.driver_check.specs.Search.{Needs, row_of}
 use Rattle.driver_check.specs.declared.graph.Span.{Span}
 use Rattle.driver_check.specs.declared.search.Frame.{Frame}
 use Rattle.driver_check.proofs.Places.{last}

@@ -1,5 +1,6 @@
 use Rattle.std.proofs.Common.{◌≡◌, List, ◌++◌, ◌∷◌, [], set, sym, ap, ◌∙◌, subst, length-set}
-use Rattle.driver_check.specs.Search.{IsSearch, row_of}
+use Rattle.driver_check.specs.Invariants.{IsSearch}
+use Rattle.driver_check.specs.Search.{row_of}
 use Rattle.driver_check.specs.declared.search.Frame.{Frame}
 use Rattle.driver_check.specs.declared.search.Mark.TheVariants as mark
 use Rattle.driver_check.proofs.Steps.{new_frame, newer_set, not_new, started}

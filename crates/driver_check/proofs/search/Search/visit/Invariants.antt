@@ -1,5 +1,6 @@
 use Rattle.std.proofs.Common.{◌≡◌, length}
-use Rattle.driver_check.specs.Search.{Has, IsNoNewer, IsSearch, row_of}
+use Rattle.driver_check.specs.Search.{Has, row_of}
+use Rattle.driver_check.specs.Invariants.{IsNoNewer, IsSearch}
 use Rattle.driver_check.specs.declared.search.Mark.TheVariants as mark
 use Rattle.driver_check.proofs.search.Search.visit.Given as goal
 

@@ -5,16 +5,15 @@ use Rattle.driver_check.specs.Numbers.{bit_count}
 use Rattle.driver_check.specs.Search.{Has, Needs, row_of}
 use Rattle.driver_check.specs.Sorting.{IsSorting}
 use Rattle.driver_check.specs.Vertices.{bit_span}
-use Rattle.driver_check.specs.Walking.{IsLeastStuck}
+use Rattle.driver_check.specs.Invariants.{IsLeastStuck}
 use Rattle.driver_check.specs.declared.graph.Span.{Span}
 use Rattle.driver_check.specs.declared.search.Mark.{Mark}
 use Rattle.driver_check.specs.declared.search.Mark.TheVariants as mark
 use Rattle.driver_check.specs.declared.sorting.Sorting.{Sorting}
 use Rattle.driver_check.proofs.Places.{within}
 use Rattle.driver_check.proofs.Numbered.{bit_at_number}
-use Rattle.driver_check.proofs.Ended.{span_is}
 use Rattle.driver_check.proofs.Freedom.{graph_inside}
-use Rattle.driver_check.proofs.Nexts.{node_least, node_next, span_stuck, wire_next}
+use Rattle.driver_check.proofs.Nexts.{node_least, node_next, span_is, span_stuck, wire_next}
 use Rattle.driver_check.proofs.sorting.Sorting.next.Goals as goal
 
 pub row-requires : goal.row-requires

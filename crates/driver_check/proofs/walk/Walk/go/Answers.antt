@@ -4,7 +4,7 @@ use Rattle.std.proofs.lemmas.List.{get_or_read}
 use Rattle.circuit.specs.declared.netlist.Drive.{Drive}
 use Rattle.driver_check.specs.Depends.{Bit}
 use Rattle.driver_check.specs.Numbers.{IsIn, start_of}
-use Rattle.driver_check.specs.Walking.{IsWalking}
+use Rattle.driver_check.specs.Invariants.{IsWalking}
 use Rattle.driver_check.proofs.Fitting.{drives_inside}
 use Rattle.driver_check.proofs.Owned.{covered_is_bit}
 use Rattle.driver_check.proofs.Nexts.{owner_in}

@@ -1,9 +1,0 @@
-use Rattle.std.proofs.Common.{◌≡◌, ℕ, length, subst, arith}
-use Rattle.driver_check.specs.Nodes.{AreNodesOf}
-use Rattle.driver_check.proofs.nodes.nodes_of.Goals as goal
-
-pub returns : goal.returns
-returns c =
-    let order = c.args.sorting.now.search.order.items in
-    let end : c.loop-place.place ≡ length order = omega (arith, c.len-place-end.ensures) in
-    subst (λ (t : ℕ). AreNodesOf c.args.circuit.now order t c.loop-place.nodes) end c.loop-place.invariant

@@ -1,9 +1,0 @@
-use Rattle.std.proofs.Common.{◌≡◌, length}
-use Rattle.driver_check.specs.Readers.{AreSeen}
-use Rattle.driver_check.proofs.readers.readers_of.Given as goal
-
-abbrev pub invariant-loop-place : goal.invariant-loop-place
-invariant-loop-place l = record {
-  long : length l.notes.last.items ≡ length l.roots;
-  seen : AreSeen l.circuit l.nodes l.holders.items l.place l.notes.entries.items l.notes.last.items;
-}

@@ -1,6 +1,0 @@
-use Rattle.std.proofs.Common.{arith}
-use Rattle.driver_check.proofs.Rooted.{all_roots}
-use Rattle.driver_check.proofs.roots.roots_of.Goals as goal
-
-pub returns : goal.returns
-returns c = all_roots c.args.circuit.now c.loop-place.place (omega arith) c.loop-place.roots c.loop-place.invariant
