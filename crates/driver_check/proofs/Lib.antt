@@ -1,5 +1,7 @@
 pub mod Places
 pub mod Steps
+pub mod Few
+pub mod Turns
 pub mod Numbered
 pub mod Fitting
 pub mod Owned

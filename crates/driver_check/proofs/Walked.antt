@@ -13,6 +13,8 @@ use Rattle.driver_check.specs.Sorting.{IsSorting}
 use Rattle.driver_check.specs.declared.search.Mark.TheVariants as mark
 use Rattle.driver_check.specs.declared.sorting.Sorting.{Sorting}
 use Rattle.driver_check.proofs.Places.{kept, last, pushed, within}
+use Rattle.driver_check.proofs.Few.{few}
+use Rattle.driver_check.proofs.Numbered.{bit_below}
 use Rattle.driver_check.proofs.Nexts.{first_is}
 
 -- the walk has come to no bit yet
@@ -114,3 +116,7 @@ module _ (c : Circuit) (valid : is_valid c ≡ true) (s : Sorting) (is : IsSorti
             let z : o.0 ≡ y = (let h : Some o.0 ≡ Some y = sym o.1 ∙ q in cc h) in
             was.last k x y e p b.0 (ap (bit_number c.nets) (sym z) ∙ o.2);
       }
+
+  -- the walk has at most as many bits as there are
+  pub walk_within : length walk ≤ s.numbering.bits
+  walk_within = few (bit_number c.nets) walk s.numbering.bits (λ i j x y p q e. sym (was.at i x p).1 ∙ ap (slice_index seen) e ∙ (was.at j y q).1) (λ i x p. let low = bit_below c.nets x (was.at i x p).0 in omega (arith, low, is.numbers.total))

@@ -1,5 +1,5 @@
 -- What holds inside the search for faults and for an order: no reader of the public definitions needs it.
-use Rattle.std.specs.Prelude.{◌≡◌, ℕ, ◌-◌, ◌^◌, ◌<◌, ◌≤◌, ◌⊎◌, List, length, Some, slice_get, slice_index, true, false, suc, ◌+◌}
+use Rattle.std.specs.Prelude.{◌≡◌, ℕ, ◌-◌, ◌^◌, ◌<◌, ◌≤◌, ◌⊎◌, List, length, Some, slice_get, slice_index, true, false, suc, ◌+◌, zero, [], ◌∷◌, sum_by}
 use Rattle.circuit.specs.Valuation.{covers}
 use Rattle.circuit.specs.declared.netlist.Circuit.{Circuit}
 use Rattle.circuit.specs.declared.netlist.Drive.{Drive}
@@ -52,6 +52,31 @@ AreFramesInside marks stack = (k : ℕ) (f : Frame) → slice_get stack k ≡ So
 -- no vertex is new that was not
 abbrev pub IsNoNewer : List Mark → List Mark → Type 0
 IsNoNewer was now = (v : ℕ) → Has now mark.New v → Has was mark.New v
+
+-- how many turns of the search a row can take from a place on: one for each vertex and each span that is left, and one for the end
+unfoldable pub turns_left : List Span → ℕ → ℕ → ℕ
+turns_left [] at offset = 1
+turns_left (s ∷ spans) zero offset = suc (s.width - offset) + turns_left spans 0 0
+turns_left (s ∷ spans) (suc at) offset = turns_left spans at offset
+
+-- what the vertices on the stack can take
+abbrev pub frame_turns : Rows → List Frame → ℕ
+frame_turns row stack = sum_by (λ f. turns_left (row f.vertex) f.span f.offset) stack
+
+abbrev pub turns_if_new : Mark → ℕ → ℕ
+turns_if_new mark.New n = suc n
+turns_if_new mark.Open n = 0
+turns_if_new mark.Done n = 0
+turns_if_new mark.Stuck n = 0
+
+-- what the vertices that were not met can take
+unfoldable pub mark_turns : Rows → List Mark → ℕ
+mark_turns row [] = 0
+mark_turns row (m ∷ marks) = turns_if_new m (turns_left (row 0) 0 0) + mark_turns (λ v. row (suc v)) marks
+
+-- what the search can take: each step takes one of it
+abbrev pub turns : Rows → List Mark → List Frame → ℕ
+turns row marks stack = mark_turns row marks + frame_turns row stack
 
 -- ---- the walk along a cycle
 

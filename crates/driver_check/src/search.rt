@@ -1,6 +1,6 @@
 //! A depth-first search of a graph with a stack of its own, so that nothing recurses.
 ghost use Rattle.std.specs.Prelude.{◌≡◌, ℕ, ◌+◌, ◌<◌, ◌≤◌, ◌++◌, ◌∷◌, ◌⊎◌, [], length, IfOk, OnOk, slice_get, Some, true, false};
-ghost use Rattle.driver_check.specs.Invariants.{AreFramesInside, IsNoNewer, IsSearch, WasSeen};
+ghost use Rattle.driver_check.specs.Invariants.{AreFramesInside, IsNoNewer, IsSearch, WasSeen, turns};
 ghost use Rattle.driver_check.specs.Search.{AreInside, Has, IsSorted, Needs, Rows, row_of, size_of_graph};
 ghost use Rattle.driver_check.specs.declared.search.Mark.TheVariants as mark;
 ghost use Rattle.driver_check.specs.declared.search.Frame.{Frame as TheFrame};
@@ -80,6 +80,7 @@ impl Search {
         requires { frame.vertex < length self.old.marks.items }
         ensures size { length self.new.marks.items ≡ length self.old.marks.items }
         ensures newer { IsNoNewer self.old.marks.items self.new.marks.items }
+        ensures turns { OnOk result ((rows : Rows) → turns rows self.new.marks.items self.new.stack.items < turns rows self.old.marks.items (self.old.stack.items ++ frame ∷ [])) }
         ensures search { OnOk result ((rows : Rows) → IsSearch rows self.old.marks.items self.old.order.items (self.old.stack.items ++ frame ∷ []) → ((w : ℕ) → Needs (rows frame.vertex) w → Has self.old.marks.items mark.Done w) → IsSearch rows self.new.marks.items self.new.order.items self.new.stack.items) }
     {
         self.marks[frame.vertex] = Mark::Done;
@@ -92,6 +93,7 @@ impl Search {
         requires { vertex < length self.old.marks.items }
         ensures size { length self.new.marks.items ≡ length self.old.marks.items }
         ensures newer { IsNoNewer self.old.marks.items self.new.marks.items }
+        ensures turns { OnOk result ((rows : Rows) → Has self.old.marks.items mark.New vertex → turns rows self.new.marks.items self.new.stack.items < turns rows self.old.marks.items (self.old.stack.items ++ frame ∷ [])) }
         ensures search { OnOk result ((rows : Rows) → IsSearch rows self.old.marks.items self.old.order.items (self.old.stack.items ++ frame ∷ []) → Needs (rows frame.vertex) vertex → Has self.old.marks.items mark.New vertex → IsSearch rows self.new.marks.items self.new.order.items self.new.stack.items) }
     {
         self.marks[vertex] = Mark::Open;
@@ -109,6 +111,7 @@ impl Search {
         requires { AreFramesInside self.old.marks.items (self.old.stack.items ++ frame ∷ []) }
         ensures size { length self.new.marks.items ≡ length self.old.marks.items }
         ensures newer { IsNoNewer self.old.marks.items self.new.marks.items }
+        ensures turns { OnOk result ((rows : Rows) → turns rows self.new.marks.items self.new.stack.items < turns rows self.old.marks.items (self.old.stack.items ++ frame ∷ [])) }
         ensures search { OnOk result ((rows : Rows) (w : ℕ) → IsSearch rows self.old.marks.items self.old.order.items (self.old.stack.items ++ frame ∷ []) → Needs (rows frame.vertex) w → Has self.old.marks.items mark.Open w ⊎ Has self.old.marks.items mark.Stuck w → IsSearch rows self.new.marks.items self.new.order.items self.new.stack.items) }
     {
         self.stack.push(frame)?;
@@ -124,6 +127,7 @@ impl Search {
         requires offset { frame.offset ≤ vertex }
         ensures size { length self.new.marks.items ≡ length self.old.marks.items }
         ensures newer { IsNoNewer self.old.marks.items self.new.marks.items }
+        ensures turns { OnOk result ((rows : Rows) (s : TheSpan) → slice_get (rows frame.vertex) frame.span ≡ Some s → frame.offset < s.width → turns rows self.new.marks.items self.new.stack.items < turns rows self.old.marks.items (self.old.stack.items ++ frame ∷ [])) }
         ensures search { OnOk result ((rows : Rows) (s : TheSpan) → IsSearch rows self.old.marks.items self.old.order.items (self.old.stack.items ++ frame ∷ []) → slice_get (rows frame.vertex) frame.span ≡ Some s → frame.offset < s.width → vertex ≡ s.first + frame.offset → IsSearch rows self.new.marks.items self.new.order.items self.new.stack.items) }
     {
         match mark_of(&self.marks, vertex) {
@@ -147,6 +151,7 @@ impl Search {
         requires inside { (w : ℕ) → Needs row.now w → w < length self.old.marks.items }
         ensures size { length self.new.marks.items ≡ length self.old.marks.items }
         ensures newer { IsNoNewer self.old.marks.items self.new.marks.items }
+        ensures turns { OnOk result ((rows : Rows) → rows frame.vertex ≡ row.now → turns rows self.new.marks.items self.new.stack.items < turns rows self.old.marks.items (self.old.stack.items ++ frame ∷ [])) }
         ensures search { OnOk result ((rows : Rows) → IsSearch rows self.old.marks.items self.old.order.items (self.old.stack.items ++ frame ∷ []) → rows frame.vertex ≡ row.now → IsSearch rows self.new.marks.items self.new.order.items self.new.stack.items) }
     {
         if frame.span >= row.len() {
@@ -171,6 +176,7 @@ impl Search {
         requires search { IsSearch (row_of graph.now) self.old.marks.items self.old.order.items self.old.stack.items }
         ensures size { length self.new.marks.items ≡ length self.old.marks.items }
         ensures newer { IsNoNewer self.old.marks.items self.new.marks.items }
+        ensures turns { OnOk result (0 < length self.old.stack.items → turns (row_of graph.now) self.new.marks.items self.new.stack.items < turns (row_of graph.now) self.old.marks.items self.old.stack.items) }
         ensures search { OnOk result (IsSearch (row_of graph.now) self.new.marks.items self.new.order.items self.new.stack.items) }
     {
         match self.stack.pop() {
@@ -180,9 +186,7 @@ impl Search {
     }
 
     /// Searches from a new vertex until nothing is left on the stack. Each turn goes one vertex or one span
-    /// further in the row of the top frame, enters a vertex that was new, takes a frame off, or gives up:
-    /// there are at most twice as many turns as there are vertices, spans, and vertices in spans, and the
-    /// end of the loop is not met.
+    /// further in the row of the top frame, enters a vertex that was new, takes a frame off, or gives up.
     fn visit(&mut self, graph: &Graph, vertex: usize) -> Result<(), NoMemory>
         requires graph { AreInside (row_of graph.now) (size_of_graph graph.now) }
         requires size { length self.old.marks.items ≡ size_of_graph graph.now }
@@ -201,13 +205,10 @@ impl Search {
             span: 0,
             offset: 0,
         })?;
-        for _turn in 0..u64::MAX {
-            if self.stack.is_empty() {
-                return Ok(());
-            }
+        'turns: while !self.stack.is_empty() {
             self.step(graph)?;
         }
-        Err(NoMemory)
+        Ok(())
     }
 
     /// Searches from a vertex, unless it was met before.

@@ -82,7 +82,8 @@ impl Walk {
         requires sorting { IsSorting circuit.now sorting.now }
         requires walking { IsWalking circuit.now sorting.now self.old.bits.items self.old.seen.items self.old.number }
         requires new { length self.old.bits.items ≤ slice_index self.old.seen.items self.old.number }
-        ensures { OnOk result (IsWalking circuit.now sorting.now self.new.bits.items self.new.seen.items self.new.number) }
+        ensures longer { OnOk result (length self.new.bits.items ≡ length self.old.bits.items + 1) }
+        ensures walking { OnOk result (IsWalking circuit.now sorting.now self.new.bits.items self.new.seen.items self.new.number) }
     {
         let number = self.number;
         let place = sorting.owners[number];
@@ -94,9 +95,8 @@ impl Walk {
     }
 }
 
-/// Walks from the first stuck bit until a bit comes for the second time. Each turn but the last adds a bit
-/// that was not in the walk, so there is at most one turn more than there are bits, and the end of the
-/// loop is not met.
+/// Walks from the first stuck bit until a bit comes for the second time. Each turn adds a bit that was not
+/// in the walk, so there are at most as many turns as there are bits.
 fn walk_from(
     alloc: Global,
     circuit: &Circuit,
@@ -114,13 +114,10 @@ fn walk_from(
         seen: vec![in alloc; usize::MAX; sorting.numbering.bits]?,
         number: first,
     };
-    for _turn in 0..u64::MAX {
-        if walk.seen[walk.number] < walk.bits.len() {
-            return Ok(walk);
-        }
+    'turns: while walk.seen[walk.number] >= walk.bits.len() {
         walk.go(circuit, sorting)?;
     }
-    Err(NoMemory)
+    Ok(walk)
 }
 
 fn named_bits(

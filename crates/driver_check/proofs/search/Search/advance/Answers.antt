@@ -1,13 +1,14 @@
-use Rattle.std.proofs.Common.{◌≡◌, ℕ, ◌+◌, ◌<◌, ◌≤◌, List, length, sym, subst, refl, arith, Some, get_or}
+use Rattle.std.proofs.Common.{◌≡◌, ℕ, ◌+◌, ◌<◌, ◌≤◌, List, length, sym, subst, refl, arith, Some, get_or, ◌++◌, ◌∷◌, [], suc}
 use Rattle.std.specs.Prelude.{slice_get}
 use Rattle.std.proofs.lemmas.Option.{slice_get-get_or}
 use Rattle.std.proofs.lemmas.Result.{on_ok_weaker}
-use Rattle.driver_check.specs.Invariants.{IsSearch}
+use Rattle.driver_check.specs.Invariants.{IsSearch, turns, turns_left}
 use Rattle.driver_check.specs.Search.{Needs}
 use Rattle.driver_check.specs.declared.graph.Span.{Span}
 use Rattle.driver_check.specs.declared.search.Frame.{Frame}
 use Rattle.driver_check.proofs.Places.{last}
 use Rattle.driver_check.proofs.Steps.{all_seen, moved, span_more}
+use Rattle.driver_check.proofs.Turns.{less_span, turns_on}
 use Rattle.driver_check.proofs.search.Search.advance.Goals as goal
 
 abbrev none : Span
@@ -55,3 +56,15 @@ returns-clause-search c = λ rows was is.
     (span_more (rows f.vertex) f.span f.offset w (get_or c.args.row.now f.span none)
     (subst (λ (spans : List Span). slice_get spans f.span ≡ Some (get_or c.args.row.now f.span none)) (sym is) (slice_get-get_or c.args.row.now f.span none (omega arith)))
     c.if-frame-span.false seen)))
+
+pub returns-clause-turns : goal.returns-clause-turns
+returns-clause-turns c = λ rows is.
+    let f : Frame = c.args.frame in
+    let rest = c.args.self.now.stack.items in
+    let marks = c.args.self.now.marks.items in
+    let next : Frame = record { vertex = f.vertex; span = f.span + 1; offset = 0 } in
+    let spans = rows f.vertex in
+    let here : slice_get spans f.span ≡ Some (get_or c.args.row.now f.span none) = subst (λ (xs : List Span). slice_get xs f.span ≡ Some (get_or c.args.row.now f.span none)) (sym is) (slice_get-get_or c.args.row.now f.span none (omega arith)) in
+    let less : turns_left spans (f.span + 1) 0 < turns_left spans f.span f.offset = subst (λ (k : ℕ). turns_left spans k 0 < turns_left spans f.span f.offset) (let e : suc f.span ≡ f.span + 1 = omega arith in e) (less_span spans f.span f.offset (get_or c.args.row.now f.span none) here) in
+    subst (λ (xs : List Frame). turns rows marks xs < turns rows marks (rest ++ f ∷ [])) (sym c.in_ok-push.ensures.items)
+    (turns_on rows marks rest f next less)

@@ -6,8 +6,8 @@ use Rattle.driver_check.specs.declared.search.Mark.TheVariants as mark
 use Rattle.driver_check.proofs.Steps.{new_frame, newer_set, not_new, started}
 use Rattle.driver_check.proofs.search.Search.visit.Goals as goal
 
-pub loop-turn-init : goal.loop-turn-init
-loop-turn-init c =
+pub turns-init : goal.turns-init
+turns-init c =
     let marks = c.args.self.now.marks.items in
     let order = c.args.self.now.order.items in
     let v = c.args.vertex in

@@ -27,8 +27,8 @@ bit_of-bit-requires-clause-inside c =
     let o = owner_in c.args.circuit.now c.requires.valid s c.requires.sorting v (omega (arith, c.requires.walking.inside, c.requires.sorting.numbers.total)) c.requires.walking.here in
     subst (λ (p : ℕ). (d : Drive) → slice_get c.args.circuit.now.drives p ≡ Some d → IsIn (start_of c.args.circuit.now.nets d) d.width v) (sym place) o.1
 
-pub returns : goal.returns
-returns c =
+pub returns-clause-walking : goal.returns-clause-walking
+returns-clause-walking c =
     let circuit = c.args.circuit.now in
     let s = c.args.sorting.now in
     let walk = c.args.self.now.bits.items in
