@@ -1,13 +1,11 @@
 //! The circuit of a module that is written out, field by field.
-use crate::rows::{
-    JOINS, NUMBERS, REGISTER_JOINS, REGISTER_NUMBERS, counter_wires, init_of, module_of, wire_with,
-};
 use circuit::Circuit;
 use flat_design::elaborate;
+use flat_text::read_module;
 use sim_base::Name;
-use sqlite_items::Items;
 use std::alloc::{AllocError, Global};
 use std::test::Fail;
+use test_designs::designs::COUNTER_AS_WRITTEN;
 
 fn text_of(name: &Name) -> &str {
     str::from_utf8(name.as_bytes()).unwrap_or("?")
@@ -71,33 +69,21 @@ fn described(alloc: Global, circuit: &Circuit) -> Result<String, AllocError> {
 #[test]
 fn the_counter_has_one_adder_and_one_register(rt: HostRuntime) -> Result<(), Fail> {
     let alloc = rt.alloc();
-    let adder = ("$add", "$a", NUMBERS.as_slice(), JOINS.as_slice());
-    let register = (
-        "$dff",
-        "$r",
-        REGISTER_NUMBERS.as_slice(),
-        REGISTER_JOINS.as_slice(),
-    );
-    let mut module = module_of(alloc, &counter_wires(), &[adder, register])?;
-    let mut attributes = Items::new(alloc);
-    attributes.push(init_of(alloc, 8, 5)?)?;
-    if module.wires.len() > 0 {
-        module.wires.set(0, wire_with(alloc, attributes)?);
-    }
+    let module = read_module(alloc, COUNTER_AS_WRITTEN.as_bytes())?;
     let circuit = elaborate(alloc, &module)?;
     assert_eq!(rt;
         described(alloc, &circuit)?.as_str(),
-        "net \\q 8
+        "net \\clk 1
+net \\q 8
 net $n 8
-net \\clk 1
-[2]
-[Drive { net: 2, at: 0, width: 1, by: Input(0, 0) }, Drive { net: 1, at: 0, width: 8, by: Cell(0, 0) }, Drive { net: 0, at: 0, width: 8, by: Reg(0, 0) }]
-[Cell { op: Add, a: Items { items: [Part { net: 0, at: 0, width: 8 }] }, b: Items { items: [Const(Bits { words: [1], width: 1 })] }, s: Items { items: [] }, a_signed: false, b_signed: false, width: 8, offset: 0 }]
-[Reg { kind: Dff, width: 8, clk: Items { items: [Part { net: 2, at: 0, width: 1 }] }, d: Items { items: [Part { net: 1, at: 0, width: 8 }] }, en: Items { items: [] }, set: Items { items: [] }, clr: Items { items: [] }, load: Items { items: [] }, ad: Items { items: [] }, pol: Polarity { clk: true, en: true, set: true, clr: true, load: true }, value: Bits { words: [0], width: 8 }, init: Bits { words: [5], width: 8 } }]
+[0]
+[Drive { net: 0, at: 0, width: 1, by: Input(0, 0) }, Drive { net: 2, at: 0, width: 8, by: Cell(0, 0) }, Drive { net: 1, at: 0, width: 8, by: Reg(0, 0) }]
+[Cell { op: Add, a: Items { items: [Part { net: 1, at: 0, width: 8 }] }, b: Items { items: [Const(Bits { words: [1], width: 1 })] }, s: Items { items: [] }, a_signed: false, b_signed: false, width: 8, offset: 0 }]
+[Reg { kind: Dff, width: 8, clk: Items { items: [Part { net: 0, at: 0, width: 1 }] }, d: Items { items: [Part { net: 2, at: 0, width: 8 }] }, en: Items { items: [] }, set: Items { items: [] }, clr: Items { items: [] }, load: Items { items: [] }, ad: Items { items: [] }, pol: Polarity { clk: true, en: true, set: true, clr: true, load: true }, value: Bits { words: [0], width: 8 }, init: Bits { words: [0], width: 8 } }]
 []
 []
-item clk 0 Node { net: 2, lsb_at: 0, input: true, output: false } None 0
-item q 0 Node { net: 0, lsb_at: 0, input: false, output: true } None 1
+item clk 0 Node { net: 0, lsb_at: 0, input: true, output: false } None 0
+item q 0 Node { net: 1, lsb_at: 0, input: false, output: true } None 1
 scope '' counter None None
 "
     );

@@ -8,8 +8,6 @@ mod refusals;
 #[cfg(test)]
 mod rounds;
 #[cfg(test)]
-mod rows;
-#[cfg(test)]
 mod runs;
 #[cfg(test)]
 mod stimuli;

@@ -2,38 +2,11 @@
 use flat_text::{Constant, FlatFault, Operand, Port, read_module};
 use std::process::Abort;
 use std::test::Fail;
-
-const COUNTER: &[u8] = br#"autoidx 5
-attribute \top 1
-attribute \src "counter.v:1.1-7.10"
-module \counter
-  wire input 1 \clk
-  attribute \init 8'00000000
-  wire width 8 output 2 \q
-  wire width 8 $n
-  cell $add $a
-    parameter \A_SIGNED 0
-    parameter \A_WIDTH 8
-    parameter \B_SIGNED 0
-    parameter \B_WIDTH 1
-    parameter \Y_WIDTH 8
-    connect \A \q
-    connect \B 1'1
-    connect \Y $n
-  end
-  cell $dff $r
-    parameter \CLK_POLARITY 1'1
-    parameter \WIDTH 8
-    connect \CLK \clk
-    connect \D $n
-    connect \Q \q
-  end
-end
-"#;
+use test_designs::designs::COUNTER_AS_WRITTEN;
 
 #[test]
 fn a_counter_is_read(rt: HostRuntime) -> Result<(), Fail> {
-    let module = read_module(rt.alloc(), COUNTER)?;
+    let module = read_module(rt.alloc(), COUNTER_AS_WRITTEN.as_bytes())?;
     assert_eq!(rt; module.name.as_bytes(), br"\counter".as_slice());
     let wires = module.wires.as_slice();
     assert_eq!(rt; wires.len(), 3);
