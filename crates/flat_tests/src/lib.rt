@@ -2,8 +2,6 @@
 #![tactic(auto)]
 
 #[cfg(test)]
-mod designs;
-#[cfg(test)]
 mod refusals;
 #[cfg(test)]
 mod rounds;
