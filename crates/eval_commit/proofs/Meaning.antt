@@ -13,7 +13,7 @@ use Rattle.circuit.specs.declared.netlist.Drive.{Drive}
 use Rattle.circuit.specs.declared.netlist.By.{By}
 use Rattle.circuit.specs.declared.netlist.By.TheVariants as by
 use Rattle.driver_check.specs.Depends.{Bit}
-use Rattle.eval_plan.specs.Ordered.{CellBit, Digit, InputBit, IsAmong, IsFinal, IsOrdered, IsThere, ReadBit, RegBit, SourceBit, source_at, source_by, source_within}
+use Rattle.eval_plan.specs.Ordered.{CellBit, Digit, InputBit, IsAmong, IsFinal, IsOrdered, IsThere, ReadBit, RegBit, SourceBit, Undriven, source_at, source_by, source_within}
 use Rattle.driver_check.specs.Nodes.{IsNode}
 use Rattle.eval_plan.specs.Roots.{AreRoots, CoversIn, root_source}
 use Rattle.driver_check.specs.declared.parts.Node.{Node}
@@ -25,6 +25,7 @@ use Rattle.signal_words.specs.Values.{digits_in}
 -- ---- sources
 
 abbrev source_digit : Circuit → State → List ℕ → Digits → SourceBit → ℕ
+source_digit c state inputs digits Undriven = 0
 source_digit c state inputs digits (Digit d) = d
 source_digit c state inputs digits (InputBit n i) = bit_at (slice_index inputs n) i
 source_digit c state inputs digits (CellBit n i) = cell_digit digits (slice_get c.cells n) i
@@ -45,7 +46,7 @@ right_by c state inputs digits more ih (by.Read m n at) i o e = of_some (source_
 
 right_at : (c : Circuit) (state : State) (inputs : List ℕ) (digits : Digits) (more : ℕ → ℕ → Option SourceBit) → ((n i : ℕ) (o : SourceBit) → more n i ≡ Some o → digits n i ≡ source_digit c state inputs digits o)
     → (bit : ℕ) (d : Option Drive) (o : SourceBit) → source_at more bit d ≡ Some o → driven c state inputs digits bit d ≡ source_digit c state inputs digits o
-right_at c state inputs digits more ih bit None o e = of_some (source_digit c state inputs digits) (Digit 0) o e
+right_at c state inputs digits more ih bit None o e = of_some (source_digit c state inputs digits) Undriven o e
 right_at c state inputs digits more ih bit (Some d) o e = right_by c state inputs digits more ih d.by (bit - d.at) o e
 
 -- the digit of a bit is that of its source
@@ -66,7 +67,7 @@ pub undriven_right : (c : Circuit) (state : State) (inputs : List ℕ) (digits :
     → (x : Bit) → ((i : ℕ) (r : Drive) → CoversIn roots i r x → ⊥) → digits x.0 x.1 ≡ 0
 undriven_right c state inputs digits roots are v x none =
     let n = are.undriven x none in
-    source_right c state inputs digits v n.0 x.0 x.1 (Digit 0) n.1
+    source_right c state inputs digits v n.0 x.0 x.1 Undriven n.1
 
 -- ---- bits of which the root is written
 

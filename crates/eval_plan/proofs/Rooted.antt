@@ -1,5 +1,5 @@
 -- The roots of a run of bits.
-use Rattle.std.proofs.Common.{◌≡◌, ℕ, ◌+◌, ◌-◌, ◌<◌, ◌≤◌, ◌⊎◌, List, [], ◌∷◌, ◌++◌, length, refl, sym, ◌∙◌, ap, subst, arith, inl, inr, true, Option, Some, None}
+use Rattle.std.proofs.Common.{◌≡◌, ℕ, zero, suc, ◌+◌, ◌-◌, ◌<◌, ◌≤◌, ◌⊎◌, List, [], ◌∷◌, ◌++◌, length, refl, sym, ◌∙◌, ap, subst, arith, inl, inr, true, Option, Some, None}
 use Rattle.std.specs.Prelude.{slice_get, slice_index}
 use Rattle.std.specs.Int.{bit_at}
 use Rattle.std.proofs.lemmas.Bool.{cases_eq, cases_lt}
@@ -12,7 +12,7 @@ use Rattle.circuit.specs.declared.netlist.By.{By}
 use Rattle.circuit.specs.declared.netlist.By.TheVariants as by
 use Rattle.driver_check.specs.Depends.{Bit}
 use Rattle.driver_check.specs.Numbers.{IsBit, bit_count, bit_number, start_of}
-use Rattle.eval_plan.specs.Ordered.{CellBit, Digit, InputBit, ReadBit, RegBit, SourceBit, source_at, source_by, source_within}
+use Rattle.eval_plan.specs.Ordered.{CellBit, Digit, InputBit, ReadBit, RegBit, SourceBit, Undriven, source_at, source_by, source_within}
 use Rattle.eval_plan.specs.OrderInvariants.{AreAllOrigins, IsOrigin, AreRootsOf, IsDone, IsRun}
 use Rattle.eval_plan.specs.Roots.{IsWire, AreRoots, CoversIn, IsRoot, root_source}
 use Rattle.driver_check.specs.Owners.{AreOwners}
@@ -30,11 +30,42 @@ named_source more (by.Cell n at) i unwired = (CellBit n (at + i), refl, refl)
 named_source more (by.Reg n at) i unwired = (RegBit n (at + i), refl, refl)
 named_source more (by.Read m n at) i unwired = (ReadBit m n (at + i), refl, refl)
 
+-- and what is named has a driver
+named_driven : (b : By) (i : ℕ) → root_source b i ≡ Some Undriven → ⊥
+named_driven (by.Const v) i e = cc e
+named_driven (by.Input n at) i e = cc e
+named_driven (by.Wire n at) i e = cc e
+named_driven (by.Cell n at) i e = cc e
+named_driven (by.Reg n at) i e = cc e
+named_driven (by.Read m n at) i e = cc e
+
+-- a bit has one source
+same_some : (u o p : SourceBit) → Some u ≡ Some o → Some u ≡ Some p → o ≡ p
+same_some u o p e f = let z : Some o ≡ Some p = sym e ∙ f in cc z
+
+once_by : (more most : ℕ → ℕ → Option SourceBit) → ((n i : ℕ) (o p : SourceBit) → more n i ≡ Some o → most n i ≡ Some p → o ≡ p) → (b : By) (i : ℕ) (o p : SourceBit) → source_by more b i ≡ Some o → source_by most b i ≡ Some p → o ≡ p
+once_by more most ih (by.Const v) i o p e f = same_some (Digit (bit_at v.number i)) o p e f
+once_by more most ih (by.Input n at) i o p e f = same_some (InputBit n (at + i)) o p e f
+once_by more most ih (by.Wire n at) i o p e f = ih n (at + i) o p e f
+once_by more most ih (by.Cell n at) i o p e f = same_some (CellBit n (at + i)) o p e f
+once_by more most ih (by.Reg n at) i o p e f = same_some (RegBit n (at + i)) o p e f
+once_by more most ih (by.Read m n at) i o p e f = same_some (ReadBit m n (at + i)) o p e f
+
+once_at : (more most : ℕ → ℕ → Option SourceBit) → ((n i : ℕ) (o p : SourceBit) → more n i ≡ Some o → most n i ≡ Some p → o ≡ p) → (bit : ℕ) (d : Option Drive) (o p : SourceBit) → source_at more bit d ≡ Some o → source_at most bit d ≡ Some p → o ≡ p
+once_at more most ih bit None o p e f = same_some Undriven o p e f
+once_at more most ih bit (Some d) o p e f = once_by more most ih d.by (bit - d.at) o p e f
+
+pub source_once : (c : Circuit) (s r net bit : ℕ) (o p : SourceBit) → source_within c s net bit ≡ Some o → source_within c r net bit ≡ Some p → o ≡ p
+unfolding source_within
+source_once c zero r net bit o p e f = cc e
+source_once c (suc s) zero net bit o p e f = cc f
+source_once c (suc s) (suc r) net bit o p e f = once_at (source_within c s) (source_within c r) (source_once c s r) bit (drive_of c net bit) o p e f
+
 first_source : (c : Circuit) (z : Bit) (d : Drive) → drive_of c z.0 z.1 ≡ Some d → (o : SourceBit) → source_by (source_within c 0) d.by (z.1 - d.at) ≡ Some o → source_within c 1 z.0 z.1 ≡ Some o
 unfolding source_within
 first_source c z d e o h = ap (source_at (source_within c 0) z.1) e ∙ h
 
-first_none : (c : Circuit) (z : Bit) → drive_of c z.0 z.1 ≡ None → source_within c 1 z.0 z.1 ≡ Some (Digit 0)
+first_none : (c : Circuit) (z : Bit) → drive_of c z.0 z.1 ≡ None → source_within c 1 z.0 z.1 ≡ Some Undriven
 unfolding source_within
 first_none c z e = ap (source_at (source_within c 0) z.1) e
 
@@ -117,7 +148,7 @@ module _ (c : Circuit) (inside : AreDrivesInside c) (once : IsDrivenOnce c) (own
           (let o = run_origin x new.1 in
           let owner = ap (slice_index owners) o.number ∙ run_owner x new.1 in
           let none = nobody_drive c o.bit (slice_index owners (bit_number c.nets o.bit)) (own o.bit o.inside) (omega (arith, owner, past)) in
-          inr (o.leads 1 (Digit 0) (first_none c o.bit none)))
+          inr (o.leads 1 Undriven (first_none c o.bit none)))
     ];
     once = was.once;
   }
@@ -159,6 +190,12 @@ module _ (c : Circuit) (inside : AreDrivesInside c) (once : IsDrivenOnce c) (own
 
       root_is : IsRoot c r
       root_is = record {
+        wide = omega (arith, width, some);
+        unwired = λ w.
+            let x = bit_from 0 some in
+            let s = named_source (source_within c 0) e.by (origin - start_of c.nets e + 0) ((run_origin x.0 x.1).ends e (origin_drive x.0 x.1)) in
+            let none : root_source r.by 0 ≡ None = ap (λ (b : By). root_source b 0) w.2 in
+            let z : None ≡ Some s.0 = sym none ∙ source 0 some ∙ s.2 in cc z;
         inside = fits;
         names = λ x h.
             let i = root_bit x h in
@@ -243,9 +280,13 @@ all_roots c p end roots was = record {
   right = was.right;
   once = was.once;
   undriven = λ x none. by_drive x none (drive_of c x.0 x.1) refl;
+  driven = λ i s r x h e.
+      let n = (was.right i r h.0).names x h.1 in
+      let z : n.1 ≡ Undriven = source_once c n.0 s x.0 x.1 n.1 Undriven n.2 e in
+      named_driven r.by (x.1 - r.at) (n.3 ∙ ap (λ (o : SourceBit). Some o) z);
 }
   where
-    by_drive : (x : Bit) → ((i : ℕ) (r : Drive) → CoversIn roots i r x → ⊥) → (o : Option Drive) → drive_of c x.0 x.1 ≡ o → (s : ℕ) × (source_within c s x.0 x.1 ≡ Some (Digit 0))
+    by_drive : (x : Bit) → ((i : ℕ) (r : Drive) → CoversIn roots i r x → ⊥) → (o : Option Drive) → drive_of c x.0 x.1 ≡ o → (s : ℕ) × (source_within c s x.0 x.1 ≡ Some Undriven)
     by_drive x none None e = (1, first_none c x e)
     by_drive x none (Some d) e =
         let k = drive_at c x d e in

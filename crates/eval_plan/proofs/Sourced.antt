@@ -12,7 +12,7 @@ use Rattle.circuit.specs.declared.netlist.By.TheVariants as by
 use Rattle.driver_check.specs.Depends.{Bit, DependsOn, DriveTakes, TakesBit}
 use Rattle.eval_plan.specs.OrderInvariants.{AreNodesOf, StandsAt}
 use Rattle.driver_check.specs.Numbers.{bit_count, IsBit, bit_number}
-use Rattle.eval_plan.specs.Ordered.{CellBit, Digit, InputBit, IsOrdered, IsThere, ReadBit, RegBit, SourceBit, source_at, source_by, source_within}
+use Rattle.eval_plan.specs.Ordered.{CellBit, Digit, InputBit, IsOrdered, IsThere, ReadBit, RegBit, SourceBit, Undriven, source_at, source_by, source_within}
 use Rattle.driver_check.specs.Search.{Has, Needs}
 use Rattle.driver_check.specs.Sorting.{IsSorting}
 use Rattle.driver_check.specs.Nodes.{IsPart, part_place}
@@ -35,6 +35,7 @@ module _ (c : Circuit) (valid : is_valid c ≡ true) (s : Sorting) (is : IsSorti
 
   -- what a source takes stands before a place of the order
   abbrev StandsBefore : ℕ → SourceBit → Type 0
+  StandsBefore i Undriven = Unit {0}
   StandsBefore i (Digit d) = Unit {0}
   StandsBefore i (InputBit n at) = Unit {0}
   StandsBefore i (CellBit n at) = (j : ℕ) × (j < i) × StandsAt c order j (node.Cell n) × (n < length c.cells)
@@ -42,6 +43,7 @@ module _ (c : Circuit) (valid : is_valid c ≡ true) (s : Sorting) (is : IsSorti
   StandsBefore i (ReadBit m n at) = (j : ℕ) × (j < i) × StandsAt c order j (node.Read m n)
 
   later : (i k : ℕ) → i < k → (o : SourceBit) → StandsBefore i o → StandsBefore k o
+  later i k lt Undriven h = tt
   later i k lt (Digit d) h = tt
   later i k lt (InputBit n at) h = tt
   later i k lt (CellBit n at) h = (h.0, omega (arith, h.1, lt), h.2, h.3)
@@ -87,7 +89,7 @@ module _ (c : Circuit) (valid : is_valid c ≡ true) (s : Sorting) (is : IsSorti
         subst (λ (u : SourceBit). StandsBefore i u) (let z : ReadBit m n (a + (x.1 - d.at)) ≡ o = cc h in z) (node_before x i b at d at_d (by.Read m n a) k (node.Read m n) refl)
 
     fed_drive : (m : Option Drive) → drive_of c x.0 x.1 ≡ m → source_at (source_within c t) x.1 m ≡ Some o → StandsBefore i o
-    fed_drive None k h = subst (λ (u : SourceBit). StandsBefore i u) (let z : Digit 0 ≡ o = cc h in z) tt
+    fed_drive None k h = subst (λ (u : SourceBit). StandsBefore i u) (let z : Undriven ≡ o = cc h in z) tt
     fed_drive (Some d) k h = fed_by d k d.by refl h
 
   fed : (t : ℕ) (x : Bit) (i : ℕ) (o : SourceBit) → IsBit c.nets x → slice_get order i ≡ Some (bit_number c.nets x) → source_within c t x.0 x.1 ≡ Some o → StandsBefore i o
@@ -119,7 +121,7 @@ module _ (c : Circuit) (valid : is_valid c ≡ true) (s : Sorting) (is : IsSorti
 
   unsourced : (net bit : ℕ) → drive_of c net bit ≡ None → (t : ℕ) × (o : SourceBit) × (source_within c t net bit ≡ Some o)
   unfolding source_within
-  unsourced net bit e = (1, Digit 0, ap (source_at (source_within c 0) bit) e)
+  unsourced net bit e = (1, Undriven, ap (source_at (source_within c 0) bit) e)
 
   source_here : (x : Bit) (i : ℕ) → IsBit c.nets x → slice_get order i ≡ Some (bit_number c.nets x) → ((y : Bit) (j : ℕ) → j < i → IsBit c.nets y → slice_get order j ≡ Some (bit_number c.nets y) → HasSource y) → (m : Option Drive) → drive_of c x.0 x.1 ≡ m → HasSource x
   source_here x i b at again None e = unsourced x.0 x.1 e
@@ -165,6 +167,7 @@ module _ (c : Circuit) (valid : is_valid c ≡ true) (s : Sorting) (is : IsSorti
       stands n part = node_done done n part
 
       final : (k i j : ℕ) (n : Node) → slice_get nodes k ≡ Some n → StandsAt c order i n → j < i → i < length order → (o : SourceBit) → StandsBefore j o → IsThere c nodes k o
+      final k i j n e at lt inside Undriven h = tt
       final k i j n e at lt inside (Digit d) h = tt
       final k i j n e at lt inside (InputBit m a) h = tt
       final k i j n e at lt inside (CellBit m a) h =

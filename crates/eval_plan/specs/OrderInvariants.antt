@@ -7,7 +7,7 @@ use Rattle.driver_check.specs.declared.parts.Node.{Node}
 use Rattle.driver_check.specs.Depends.{Bit}
 use Rattle.driver_check.specs.Nodes.{part_place, IsNode}
 use Rattle.driver_check.specs.Numbers.{IsBit, bit_number, bit_count}
-use Rattle.eval_plan.specs.Ordered.{Digit, SourceBit, source_within}
+use Rattle.eval_plan.specs.Ordered.{SourceBit, Undriven, source_within}
 use Rattle.eval_plan.specs.Roots.{AreApart, CoversIn, IsRoot, IsWire}
 
 -- ---- nodes
@@ -50,7 +50,7 @@ IsDone c p a k d x = (k < p) ⊎ ((k ≡ p) × (x.1 < d.at + a))
 pub record AreRootsOf (c : Circuit) (p a : ℕ) (roots : List Drive) : Type 0 where
   pub right : (i : ℕ) (r : Drive) → slice_get roots i ≡ Some r → IsRoot c r
   pub claimed : (i : ℕ) (r : Drive) (x : Bit) → CoversIn roots i r x → (k : ℕ) × (d : Drive) × CoversIn c.drives k d x × IsDone c p a k d x
-  pub whole : (k : ℕ) (d : Drive) (x : Bit) → CoversIn c.drives k d x → IsDone c p a k d x → ((i : ℕ) × (r : Drive) × CoversIn roots i r x) ⊎ ((s : ℕ) × (source_within c s x.0 x.1 ≡ Some (Digit 0)))
+  pub whole : (k : ℕ) (d : Drive) (x : Bit) → CoversIn c.drives k d x → IsDone c p a k d x → ((i : ℕ) × (r : Drive) × CoversIn roots i r x) ⊎ ((s : ℕ) × (source_within c s x.0 x.1 ≡ Some Undriven))
   pub once : AreApart roots
 
 -- from a bit on, so many bits have origins in a row, which have one owner

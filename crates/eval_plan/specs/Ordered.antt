@@ -12,8 +12,9 @@ use Rattle.driver_check.specs.Nodes.{NodeReads, IsNode}
 
 -- ---- where bits come from
 
--- where a chain of wires ends: a digit, or a bit of what drives
+-- where a chain of wires ends: at a bit without a driver, a digit, or a bit of what drives
 pub data SourceBit : Type 0 where
+  Undriven : SourceBit
   Digit : ℕ → SourceBit
   InputBit : ℕ → ℕ → SourceBit
   CellBit : ℕ → ℕ → SourceBit
@@ -29,10 +30,10 @@ source_by more (by.Reg n at) i = Some (RegBit n (at + i))
 source_by more (by.Read m n at) i = Some (ReadBit m n (at + i))
 
 abbrev pub source_at : (ℕ → ℕ → Option SourceBit) → ℕ → Option Drive → Option SourceBit
-source_at more bit None = Some (Digit 0)
+source_at more bit None = Some Undriven
 source_at more bit (Some d) = source_by more d.by (bit - d.at)
 
--- the source of a bit, by fewer than so many wires; a bit without a driver is 0
+-- the source of a bit, by fewer than so many wires
 unfoldable pub source_within : Circuit → ℕ → ℕ → ℕ → Option SourceBit
 source_within c zero net bit = None
 source_within c (suc steps) net bit = source_at (source_within c steps) bit (drive_of c net bit)
@@ -45,6 +46,7 @@ IsAmong nodes k n = (i : ℕ) × (i < k) × (slice_get nodes i ≡ Some n)
 
 -- what a source takes is computed by the first k nodes, or by none
 abbrev pub IsThere : Circuit → List Node → ℕ → SourceBit → Type 0
+IsThere c nodes k Undriven = Unit {0}
 IsThere c nodes k (Digit d) = Unit {0}
 IsThere c nodes k (InputBit n at) = Unit {0}
 IsThere c nodes k (CellBit n at) = IsAmong nodes k (node.Cell n)

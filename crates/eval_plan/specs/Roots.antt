@@ -1,5 +1,5 @@
 -- The roots of a circuit: drives with the wires between left out.
-use Rattle.std.specs.Prelude.{◌≡◌, ℕ, ◌-◌, List, Some, slice_get, true, Option, None}
+use Rattle.std.specs.Prelude.{◌≡◌, ℕ, ◌-◌, ◌<◌, List, Some, slice_get, true, Option, None}
 use Rattle.circuit.specs.Valid.{drive_fits}
 use Rattle.circuit.specs.Valuation.{covers}
 use Rattle.circuit.specs.declared.netlist.By.TheVariants as by
@@ -7,7 +7,7 @@ use Rattle.circuit.specs.declared.netlist.By.{By}
 use Rattle.circuit.specs.declared.netlist.Circuit.{Circuit}
 use Rattle.circuit.specs.declared.netlist.Drive.{Drive}
 use Rattle.driver_check.specs.Depends.{Bit}
-use Rattle.eval_plan.specs.Ordered.{Digit, SourceBit, source_by, source_within}
+use Rattle.eval_plan.specs.Ordered.{SourceBit, Undriven, source_by, source_within}
 
 -- a wire
 abbrev pub IsWire : By → Type 0
@@ -21,8 +21,11 @@ root_source b i = source_by (λ n at. None) b i
 abbrev pub CoversIn : List Drive → ℕ → Drive → Bit → Type 0
 CoversIn drives i d x = (slice_get drives i ≡ Some d) × (covers x.0 x.1 d ≡ true)
 
--- a root lies inside its net and inside what it takes from, and names the source of each bit that it covers
+-- a root has bits and no wire behind it, lies inside its net and inside what it takes from, and names the source of each bit
+-- that it covers
 pub record IsRoot (c : Circuit) (r : Drive) : Type 0 where
+  pub wide : 0 < r.width
+  pub unwired : IsWire r.by → ⊥
   pub inside : drive_fits c r ≡ true
   pub names : (x : Bit) → covers x.0 x.1 r ≡ true → (s : ℕ) × (o : SourceBit) × (source_within c s x.0 x.1 ≡ Some o) × (root_source r.by (x.1 - r.at) ≡ Some o)
 
@@ -32,9 +35,10 @@ AreApart drives = (i j : ℕ) (r q : Drive) (x : Bit) → CoversIn drives i r x 
 
 -- the roots of a circuit
 pub record AreRoots (c : Circuit) (roots : List Drive) : Type 0 where
-  -- each lies inside its net and names the source of each bit that it covers
   pub right : (i : ℕ) (r : Drive) → slice_get roots i ≡ Some r → IsRoot c r
   -- no two share a bit
   pub once : AreApart roots
-  -- a bit that no root covers has no driver at the end of its wires, and is 0
-  pub undriven : (x : Bit) → ((i : ℕ) (r : Drive) → CoversIn roots i r x → ⊥) → (s : ℕ) × (source_within c s x.0 x.1 ≡ Some (Digit 0))
+  -- a bit that no root covers has no driver at the end of its wires
+  pub undriven : (x : Bit) → ((i : ℕ) (r : Drive) → CoversIn roots i r x → ⊥) → (s : ℕ) × (source_within c s x.0 x.1 ≡ Some Undriven)
+  -- and a bit that one covers has a driver there
+  pub driven : (i s : ℕ) (r : Drive) (x : Bit) → CoversIn roots i r x → source_within c s x.0 x.1 ≡ Some Undriven → ⊥
