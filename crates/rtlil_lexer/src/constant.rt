@@ -36,6 +36,15 @@ impl<'a> Model for Constant<'a> {
 }
 
 impl<'a> Constant<'a> {
+    /// The same constant of the text.
+    pub fn copied(&self) -> Constant<'a>
+        ensures { result ≡ self.now }
+    {
+        Constant {
+            spelled: self.spelled,
+        }
+    }
+
     /// The constant that a text stands for: the digits of its width in bits, a quote, an `s` or none, and
     /// its digits, the most significant first. Each of these is one of `0 1 x z m -`, and there are not
     /// more of them than bits.

@@ -31,6 +31,13 @@ impl<'a> Model for Quoted<'a> {
 }
 
 impl<'a> Quoted<'a> {
+    /// The same string of the text.
+    pub fn copied(&self) -> Quoted<'a>
+        ensures { result ≡ self.now }
+    {
+        Quoted { body: self.body }
+    }
+
     /// The string with this text between its quotes; none where an octal escape is above 255.
     pub(crate) fn of(body: &'a [u8]) -> Option<Quoted<'a>>
         ensures { result ≡ quoted_of body.now }

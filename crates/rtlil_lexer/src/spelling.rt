@@ -20,6 +20,13 @@ impl<'a> Model for Spelling<'a> {
 }
 
 impl<'a> Spelling<'a> {
+    /// The same piece of the text.
+    pub fn copied(&self) -> Spelling<'a>
+        ensures { result ≡ self.now }
+    {
+        Spelling { bytes: self.bytes }
+    }
+
     pub fn of(bytes: &'a [u8]) -> Spelling<'a>
         ensures { result ≡ bytes.now }
     {

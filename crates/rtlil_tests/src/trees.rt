@@ -3,7 +3,7 @@ use rtlil_tree::{
     Action, Assignment, Attribute, Cell, Const, File, Memory, Module, Parameter, ParameterKind,
     Process, Setting, Sig, SigPart, Statement, Sync, Trigger, Wire, parse,
 };
-use sim_base::{Bits, Name};
+use sim_base::Bits;
 use std::alloc::Global;
 use std::str::from_utf8;
 use std::test::Fail;
@@ -11,8 +11,8 @@ use std::test::Fail;
 /// How deep the trees of these tests are, with room to spare.
 const DEEP: u32 = 300;
 
-fn push_name(out: &mut String, name: &Name) -> Result<(), Fail> {
-    write!(out, "{}", from_utf8(name.as_bytes())?)?;
+fn push_name(out: &mut String, name: &[u8]) -> Result<(), Fail> {
+    write!(out, "{}", from_utf8(name)?)?;
     Ok(())
 }
 
@@ -40,36 +40,39 @@ fn push_digit(
 }
 
 /// Digits behind a quote, an integer as it is, and a string between `<` and `>`.
-fn push_const(out: &mut String, value: &Const) -> Result<(), Fail> {
+fn push_const(alloc: Global, out: &mut String, value: &Const) -> Result<(), Fail> {
     match value {
-        Const::Digits { value, known, any } => {
+        Const::Digits(constant) => {
+            let value = constant.value(alloc)?;
+            let known = constant.known(alloc)?;
+            let any = constant.any(alloc)?;
             write!(out, "'")?;
             for at in (0..value.width()).rev() {
-                push_digit(out, value, known, any, at)?;
+                push_digit(out, &value, &known, &any, at)?;
             }
         }
         Const::Integer(number) => write!(out, "{number}")?,
         Const::String(text) => {
             write!(out, "<")?;
-            push_name(out, text)?;
+            push_name(out, text.to_name(alloc)?.as_bytes())?;
             write!(out, ">")?;
         }
     }
     Ok(())
 }
 
-fn push_sig(out: &mut String, sig: &Sig, depth: u32) -> Result<(), Fail> {
+fn push_sig(alloc: Global, out: &mut String, sig: &Sig, depth: u32) -> Result<(), Fail> {
     if depth == 0 {
         return Err(Fail::new("deeper than the limit"));
     }
     match &sig.part {
-        SigPart::Const(value) => push_const(out, value)?,
-        SigPart::Wire(name) => push_name(out, name)?,
+        SigPart::Const(value) => push_const(alloc, out, value)?,
+        SigPart::Wire(name) => push_name(out, name.as_bytes())?,
         SigPart::Concatenation(parts) => {
             write!(out, "{{")?;
             for part in parts.as_slice() {
                 write!(out, " ")?;
-                push_sig(out, part, depth - 1)?;
+                push_sig(alloc, out, part, depth - 1)?;
             }
             write!(out, " }}")?;
         }
@@ -80,19 +83,19 @@ fn push_sig(out: &mut String, sig: &Sig, depth: u32) -> Result<(), Fail> {
     Ok(())
 }
 
-fn push_assignment(out: &mut String, said: &Assignment) -> Result<(), Fail> {
-    push_sig(out, &said.left, DEEP)?;
+fn push_assignment(alloc: Global, out: &mut String, said: &Assignment) -> Result<(), Fail> {
+    push_sig(alloc, out, &said.left, DEEP)?;
     write!(out, "=")?;
-    push_sig(out, &said.right, DEEP)?;
+    push_sig(alloc, out, &said.right, DEEP)?;
     Ok(())
 }
 
-fn push_attributes(out: &mut String, attributes: &[Attribute]) -> Result<(), Fail> {
+fn push_attributes(alloc: Global, out: &mut String, attributes: &[Attribute]) -> Result<(), Fail> {
     for attribute in attributes {
         write!(out, "@")?;
-        push_name(out, &attribute.name)?;
+        push_name(out, attribute.name.as_bytes())?;
         write!(out, "=")?;
-        push_const(out, &attribute.value)?;
+        push_const(alloc, out, &attribute.value)?;
         write!(out, " ")?;
     }
     Ok(())
@@ -107,13 +110,13 @@ fn push_kind(out: &mut String, kind: ParameterKind) -> Result<(), Fail> {
     Ok(())
 }
 
-fn push_parameter(out: &mut String, said: &Parameter) -> Result<(), Fail> {
+fn push_parameter(alloc: Global, out: &mut String, said: &Parameter) -> Result<(), Fail> {
     write!(out, "parameter ")?;
     push_kind(out, said.kind)?;
-    push_name(out, &said.name)?;
+    push_name(out, said.name.as_bytes())?;
     if let Some(default) = &said.default {
         write!(out, "=")?;
-        push_const(out, default)?;
+        push_const(alloc, out, default)?;
     }
     Ok(())
 }
@@ -126,10 +129,10 @@ fn push_side(out: &mut String, side: &str, number: Option<i32>) -> Result<(), Fa
 }
 
 /// All options, also those that were not written.
-fn push_wire(out: &mut String, said: &Wire) -> Result<(), Fail> {
-    push_attributes(out, said.attributes.as_slice())?;
+fn push_wire(alloc: Global, out: &mut String, said: &Wire) -> Result<(), Fail> {
+    push_attributes(alloc, out, said.attributes.as_slice())?;
     write!(out, "wire ")?;
-    push_name(out, &said.name)?;
+    push_name(out, said.name.as_bytes())?;
     write!(out, " {} {}", said.options.width, said.options.offset)?;
     push_side(out, "input", said.options.input)?;
     push_side(out, "output", said.options.output)?;
@@ -144,10 +147,10 @@ fn push_wire(out: &mut String, said: &Wire) -> Result<(), Fail> {
 }
 
 /// Its width, size and offset.
-fn push_memory(out: &mut String, said: &Memory) -> Result<(), Fail> {
-    push_attributes(out, said.attributes.as_slice())?;
+fn push_memory(alloc: Global, out: &mut String, said: &Memory) -> Result<(), Fail> {
+    push_attributes(alloc, out, said.attributes.as_slice())?;
     write!(out, "memory ")?;
-    push_name(out, &said.name)?;
+    push_name(out, said.name.as_bytes())?;
     let options = said.options;
     write!(
         out,
@@ -157,58 +160,58 @@ fn push_memory(out: &mut String, said: &Memory) -> Result<(), Fail> {
     Ok(())
 }
 
-fn push_settings(out: &mut String, settings: &[Setting]) -> Result<(), Fail> {
+fn push_settings(alloc: Global, out: &mut String, settings: &[Setting]) -> Result<(), Fail> {
     for setting in settings {
         write!(out, " ")?;
         push_kind(out, setting.kind)?;
-        push_name(out, &setting.name)?;
+        push_name(out, setting.name.as_bytes())?;
         write!(out, "=")?;
-        push_const(out, &setting.value)?;
+        push_const(alloc, out, &setting.value)?;
     }
     Ok(())
 }
 
-fn push_cell(out: &mut String, said: &Cell) -> Result<(), Fail> {
-    push_attributes(out, said.attributes.as_slice())?;
+fn push_cell(alloc: Global, out: &mut String, said: &Cell) -> Result<(), Fail> {
+    push_attributes(alloc, out, said.attributes.as_slice())?;
     write!(out, "cell ")?;
-    push_name(out, &said.kind)?;
+    push_name(out, said.kind.as_bytes())?;
     write!(out, " ")?;
-    push_name(out, &said.name)?;
-    push_settings(out, said.settings.as_slice())?;
+    push_name(out, said.name.as_bytes())?;
+    push_settings(alloc, out, said.settings.as_slice())?;
     for connection in said.connections.as_slice() {
         write!(out, " ")?;
-        push_name(out, &connection.port)?;
+        push_name(out, connection.port.as_bytes())?;
         write!(out, "~")?;
-        push_sig(out, &connection.sig, DEEP)?;
+        push_sig(alloc, out, &connection.sig, DEEP)?;
     }
     Ok(())
 }
 
-fn push_compare(out: &mut String, compare: &[Sig]) -> Result<(), Fail> {
+fn push_compare(alloc: Global, out: &mut String, compare: &[Sig]) -> Result<(), Fail> {
     write!(out, "case")?;
     for sig in compare {
         write!(out, " ")?;
-        push_sig(out, sig, DEEP)?;
+        push_sig(alloc, out, sig, DEEP)?;
     }
     Ok(())
 }
 
 /// Cases as `case 1 2 ( .. )`, and a switch as `switch \s ( .. )`.
-fn push_body(out: &mut String, body: &[Action], depth: u32) -> Result<(), Fail> {
+fn push_body(alloc: Global, out: &mut String, body: &[Action], depth: u32) -> Result<(), Fail> {
     if depth == 0 {
         return Err(Fail::new("deeper than the limit"));
     }
     write!(out, "(")?;
     for action in body {
         match action {
-            Action::Assign(said) => push_assignment(out, said)?,
+            Action::Assign(said) => push_assignment(alloc, out, said)?,
             Action::Switch(switch) => {
                 write!(out, "switch ")?;
-                push_sig(out, &switch.on, DEEP)?;
+                push_sig(alloc, out, &switch.on, DEEP)?;
                 for case in switch.cases.as_slice() {
                     write!(out, " ")?;
-                    push_compare(out, case.compare.as_slice())?;
-                    push_body(out, case.body.as_slice(), depth - 1)?;
+                    push_compare(alloc, out, case.compare.as_slice())?;
+                    push_body(alloc, out, case.body.as_slice(), depth - 1)?;
                 }
             }
         }
@@ -218,7 +221,7 @@ fn push_body(out: &mut String, body: &[Action], depth: u32) -> Result<(), Fail> 
     Ok(())
 }
 
-fn push_trigger(out: &mut String, when: &Trigger) -> Result<(), Fail> {
+fn push_trigger(alloc: Global, out: &mut String, when: &Trigger) -> Result<(), Fail> {
     let (word, sig) = match when {
         Trigger::Always => ("always", None),
         Trigger::Init => ("init", None),
@@ -230,18 +233,18 @@ fn push_trigger(out: &mut String, when: &Trigger) -> Result<(), Fail> {
     };
     write!(out, "{word}")?;
     if let Some(sig) = sig {
-        push_sig(out, sig, DEEP)?;
+        push_sig(alloc, out, sig, DEEP)?;
     }
     Ok(())
 }
 
-fn push_syncs(out: &mut String, syncs: &[Sync]) -> Result<(), Fail> {
+fn push_syncs(alloc: Global, out: &mut String, syncs: &[Sync]) -> Result<(), Fail> {
     for sync in syncs {
         write!(out, " sync ")?;
-        push_trigger(out, &sync.when)?;
+        push_trigger(alloc, out, &sync.when)?;
         write!(out, "(")?;
         for update in sync.updates.as_slice() {
-            push_assignment(out, update)?;
+            push_assignment(alloc, out, update)?;
             write!(out, ";")?;
         }
         write!(out, ")")?;
@@ -249,45 +252,45 @@ fn push_syncs(out: &mut String, syncs: &[Sync]) -> Result<(), Fail> {
     Ok(())
 }
 
-fn push_process(out: &mut String, said: &Process) -> Result<(), Fail> {
+fn push_process(alloc: Global, out: &mut String, said: &Process) -> Result<(), Fail> {
     write!(out, "process {}:{} ", said.place.line, said.place.column)?;
-    push_name(out, &said.name)?;
-    push_body(out, said.body.as_slice(), DEEP)?;
-    push_syncs(out, said.syncs.as_slice())?;
+    push_name(out, said.name.as_bytes())?;
+    push_body(alloc, out, said.body.as_slice(), DEEP)?;
+    push_syncs(alloc, out, said.syncs.as_slice())?;
     Ok(())
 }
 
-fn push_statement(out: &mut String, said: &Statement) -> Result<(), Fail> {
+fn push_statement(alloc: Global, out: &mut String, said: &Statement) -> Result<(), Fail> {
     match said {
-        Statement::Parameter(said) => push_parameter(out, said)?,
-        Statement::Wire(said) => push_wire(out, said)?,
-        Statement::Memory(said) => push_memory(out, said)?,
-        Statement::Cell(said) => push_cell(out, said)?,
+        Statement::Parameter(said) => push_parameter(alloc, out, said)?,
+        Statement::Wire(said) => push_wire(alloc, out, said)?,
+        Statement::Memory(said) => push_memory(alloc, out, said)?,
+        Statement::Cell(said) => push_cell(alloc, out, said)?,
         Statement::Connect(said) => {
             write!(out, "connect ")?;
-            push_assignment(out, said)?;
+            push_assignment(alloc, out, said)?;
         }
-        Statement::Process(said) => push_process(out, said)?,
+        Statement::Process(said) => push_process(alloc, out, said)?,
     }
     write!(out, ";")?;
     Ok(())
 }
 
-fn push_module(out: &mut String, said: &Module) -> Result<(), Fail> {
-    push_attributes(out, said.attributes.as_slice())?;
+fn push_module(alloc: Global, out: &mut String, said: &Module) -> Result<(), Fail> {
+    push_attributes(alloc, out, said.attributes.as_slice())?;
     write!(out, "module ")?;
-    push_name(out, &said.name)?;
+    push_name(out, said.name.as_bytes())?;
     write!(out, "{{")?;
     for statement in said.statements.as_slice() {
-        push_statement(out, statement)?;
+        push_statement(alloc, out, statement)?;
     }
     write!(out, "}}")?;
     Ok(())
 }
 
-fn push_file(out: &mut String, file: &File) -> Result<(), Fail> {
+fn push_file(alloc: Global, out: &mut String, file: &File) -> Result<(), Fail> {
     for module in file.modules.as_slice() {
-        push_module(out, module)?;
+        push_module(alloc, out, module)?;
     }
     Ok(())
 }
@@ -302,7 +305,7 @@ fn told(alloc: Global, text: &[u8]) -> Result<String, Fail> {
     };
     let mut out = String::new(alloc);
     match parse(alloc, &tokens) {
-        Ok(file) => push_file(&mut out, &file)?,
+        Ok(file) => push_file(alloc, &mut out, &file)?,
         Err(TextFault::At { kind, line, column }) => write!(out, "{kind:?} {line} {column}")?,
         Err(TextFault::NoMemory) => write!(out, "NoMemory")?,
     }

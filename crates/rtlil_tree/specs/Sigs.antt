@@ -1,6 +1,5 @@
 -- Values and signals.
 use Rattle.std.specs.Prelude.{ℕ, zero, suc, List, [], ◌∷◌, ◌++◌, length, Option, Some, None, Ok, if◌then◌else◌}
-use Rattle.sim_base.specs.BitValue.{bit_value}
 use Rattle.rtlil_lexer.specs.declared.token.TokenKind.{TokenKind}
 use Rattle.rtlil_lexer.specs.declared.token.TokenKind.TheVariants as token
 use Rattle.rtlil_lexer.specs.declared.fault.TextFaultKind.TheVariants.{Nesting}
@@ -15,7 +14,7 @@ use Rattle.rtlil_tree.specs.Input.{Input, Rule, ◌>>=◌, ◌>>◌, pure, refus
 
 -- const = constant | integer | string
 abbrev pub constant_by : Option TokenKind → Rule Const
-constant_by (Some (token.Constant c)) = λ i. Ok (const.Digits (bit_value c.width c.value) (bit_value c.width c.known) (bit_value c.width c.any), next i)
+constant_by (Some (token.Constant c)) = λ i. Ok (const.Digits c, next i)
 constant_by (Some (token.Integer n)) = λ i. Ok (const.Integer n, next i)
 constant_by (Some (token.String bytes)) = λ i. Ok (const.String bytes, next i)
 constant_by _ = refuse

@@ -18,10 +18,10 @@ const DEEPEST: u32 = 256;
 
 /// Reads a comma and a signal behind it, if they come next.
 #[tactic(auto, unfolding(crate::specs::Processes::further))]
-fn further(
+fn further<'t>(
     alloc: Global,
-    cursor: &mut Cursor<'_, '_>,
-    found: &mut Items<Sig>,
+    cursor: &mut Cursor<'_, 't>,
+    found: &mut Items<Sig<'t>>,
 ) -> Result<bool, TextFault>
     ensures { Steps (spec.further found.old cursor.old) result found.new cursor.new }
 {
@@ -34,12 +34,12 @@ fn further(
 
 /// Reads as many signals as there are, each behind a comma.
 #[tactic(auto, unfolding(crate::specs::Processes::sigs_from))]
-fn sigs_from(
+fn sigs_from<'t>(
     alloc: Global,
-    cursor: &mut Cursor<'_, '_>,
-    mut found: Items<Sig>,
-) -> Result<Items<Sig>, TextFault>
-    ensures { Reads (spec.sigs_from found cursor.old) result cursor.new }
+    cursor: &mut Cursor<'_, 't>,
+    mut found: Items<Sig<'t>>,
+) -> Result<Items<Sig<'t>>, TextFault>
+    ensures { Reads (spec.sigs_from found.entry cursor.old) result cursor.new }
 {
     for _turn in 0..cursor.left() {
         if !further(alloc, cursor, &mut found)? {
@@ -51,7 +51,7 @@ fn sigs_from(
 
 /// Reads what a case fits, from behind its word on.
 #[tactic(auto, unfolding(crate::specs::Processes::compare))]
-fn compare(alloc: Global, cursor: &mut Cursor<'_, '_>) -> Result<Items<Sig>, TextFault>
+fn compare<'t>(alloc: Global, cursor: &mut Cursor<'_, 't>) -> Result<Items<Sig<'t>>, TextFault>
     ensures { Reads (spec.compare cursor.old) result cursor.new }
 {
     let mut first = Items::new(alloc);
@@ -67,18 +67,18 @@ fn compare(alloc: Global, cursor: &mut Cursor<'_, '_>) -> Result<Items<Sig>, Tex
 /// Reads one part of a body, if it is one.
 #[cycle(action)]
 #[tactic(auto, unfolding(crate::specs::Processes::body_part))]
-fn body_part(
+fn body_part<'t>(
     alloc: Global,
-    cursor: &mut Cursor<'_, '_>,
+    cursor: &mut Cursor<'_, 't>,
     depth: u32,
-    found: &mut Items<Action>,
+    found: &mut Items<Action<'t>>,
 ) -> Result<bool, TextFault>
     ensures { Steps (spec.body_part (spec.switch_within depth) found.old cursor.old) result found.new cursor.new }
 {
     if cursor.eat(Sign::EndOfLine) {
         Ok(true)
     } else if cursor.eat_word(b"attribute") {
-        attribute(alloc, cursor)?;
+        attribute(cursor)?;
         Ok(true)
     } else if cursor.eat_word(b"assign") {
         found.push(Action::Assign(assignment(alloc, cursor)?))?;
@@ -94,7 +94,11 @@ fn body_part(
 /// Reads the parts of a body, as many as there are.
 #[cycle(action)]
 #[tactic(auto, unfolding(crate::specs::Processes::body))]
-fn body(alloc: Global, cursor: &mut Cursor<'_, '_>, depth: u32) -> Result<Items<Action>, TextFault>
+fn body<'t>(
+    alloc: Global,
+    cursor: &mut Cursor<'_, 't>,
+    depth: u32,
+) -> Result<Items<Action<'t>>, TextFault>
     ensures { Reads (spec.body (spec.switch_within depth) cursor.old) result cursor.new }
 {
     let mut found = Items::new(alloc);
@@ -109,7 +113,7 @@ fn body(alloc: Global, cursor: &mut Cursor<'_, '_>, depth: u32) -> Result<Items<
 /// Reads a case, from behind its word on.
 #[cycle(action)]
 #[tactic(auto, unfolding(crate::specs::Processes::case))]
-fn case(alloc: Global, cursor: &mut Cursor<'_, '_>, depth: u32) -> Result<Case, TextFault>
+fn case<'t>(alloc: Global, cursor: &mut Cursor<'_, 't>, depth: u32) -> Result<Case<'t>, TextFault>
     ensures { Reads (spec.case (spec.switch_within depth) cursor.old) result cursor.new }
 {
     let compare = compare(alloc, cursor)?;
@@ -120,18 +124,18 @@ fn case(alloc: Global, cursor: &mut Cursor<'_, '_>, depth: u32) -> Result<Case, 
 /// Reads one part of a switch, and tells whether more may come.
 #[cycle(action)]
 #[tactic(auto, unfolding(crate::specs::Processes::switch_part))]
-fn switch_part(
+fn switch_part<'t>(
     alloc: Global,
-    cursor: &mut Cursor<'_, '_>,
+    cursor: &mut Cursor<'_, 't>,
     depth: u32,
-    found: &mut Items<Case>,
+    found: &mut Items<Case<'t>>,
 ) -> Result<bool, TextFault>
     ensures { Steps (spec.switch_part (spec.switch_within depth) found.old cursor.old) result found.new cursor.new }
 {
     if cursor.eat(Sign::EndOfLine) {
         Ok(true)
     } else if cursor.eat_word(b"attribute") {
-        attribute(alloc, cursor)?;
+        attribute(cursor)?;
         Ok(true)
     } else if cursor.eat_word(b"case") {
         found.push(case(alloc, cursor, depth)?)?;
@@ -147,7 +151,11 @@ fn switch_part(
 /// Reads the cases of a switch, up to its end.
 #[cycle(action)]
 #[tactic(auto, unfolding(crate::specs::Processes::cases))]
-fn cases(alloc: Global, cursor: &mut Cursor<'_, '_>, depth: u32) -> Result<Items<Case>, TextFault>
+fn cases<'t>(
+    alloc: Global,
+    cursor: &mut Cursor<'_, 't>,
+    depth: u32,
+) -> Result<Items<Case<'t>>, TextFault>
     ensures { Reads (spec.cases (spec.switch_within depth) cursor.old) result cursor.new }
 {
     let mut found = Items::new(alloc);
@@ -162,7 +170,11 @@ fn cases(alloc: Global, cursor: &mut Cursor<'_, '_>, depth: u32) -> Result<Items
 /// Reads a switch, from behind its word on.
 #[cycle(action)]
 #[tactic(auto, unfolding(crate::specs::Processes::switch_with))]
-fn switch_with(alloc: Global, cursor: &mut Cursor<'_, '_>, depth: u32) -> Result<Switch, TextFault>
+fn switch_with<'t>(
+    alloc: Global,
+    cursor: &mut Cursor<'_, 't>,
+    depth: u32,
+) -> Result<Switch<'t>, TextFault>
     ensures { Reads (spec.switch_with (spec.switch_within depth) cursor.old) result cursor.new }
 {
     let on = signal(alloc, cursor)?;
@@ -173,11 +185,11 @@ fn switch_with(alloc: Global, cursor: &mut Cursor<'_, '_>, depth: u32) -> Result
 
 /// Reads a switch, where so many may be open at once.
 #[cycle(action)]
-fn switch_within(
+fn switch_within<'t>(
     alloc: Global,
-    cursor: &mut Cursor<'_, '_>,
+    cursor: &mut Cursor<'_, 't>,
     depth: u32,
-) -> Result<Switch, TextFault>
+) -> Result<Switch<'t>, TextFault>
     ensures { Reads (spec.switch_within depth cursor.old) result cursor.new }
 {
     if depth == 0 {
@@ -189,7 +201,7 @@ fn switch_within(
 
 /// Reads when updates are made, from behind the word `sync` on.
 #[tactic(auto, unfolding(crate::specs::Processes::trigger))]
-fn trigger(alloc: Global, cursor: &mut Cursor<'_, '_>) -> Result<Trigger, TextFault>
+fn trigger<'t>(alloc: Global, cursor: &mut Cursor<'_, 't>) -> Result<Trigger<'t>, TextFault>
     ensures { Reads (spec.trigger cursor.old) result cursor.new }
 {
     if cursor.eat_word(b"always") {
@@ -215,10 +227,10 @@ fn trigger(alloc: Global, cursor: &mut Cursor<'_, '_>) -> Result<Trigger, TextFa
 
 /// Reads one line of a sync, if it is one.
 #[tactic(auto, unfolding(crate::specs::Processes::sync_line))]
-fn sync_line(
+fn sync_line<'t>(
     alloc: Global,
-    cursor: &mut Cursor<'_, '_>,
-    found: &mut Items<Assignment>,
+    cursor: &mut Cursor<'_, 't>,
+    found: &mut Items<Assignment<'t>>,
 ) -> Result<bool, TextFault>
     ensures { Steps (spec.sync_line found.old cursor.old) result found.new cursor.new }
 {
@@ -236,7 +248,10 @@ fn sync_line(
 
 /// Reads the lines of a sync, as many as there are.
 #[tactic(auto, unfolding(crate::specs::Processes::updates))]
-fn updates(alloc: Global, cursor: &mut Cursor<'_, '_>) -> Result<Items<Assignment>, TextFault>
+fn updates<'t>(
+    alloc: Global,
+    cursor: &mut Cursor<'_, 't>,
+) -> Result<Items<Assignment<'t>>, TextFault>
     ensures { Reads (spec.updates cursor.old) result cursor.new }
 {
     let mut found = Items::new(alloc);
@@ -250,7 +265,7 @@ fn updates(alloc: Global, cursor: &mut Cursor<'_, '_>) -> Result<Items<Assignmen
 
 /// Reads a sync, from behind its word on.
 #[tactic(auto, unfolding(crate::specs::Processes::sync))]
-fn sync(alloc: Global, cursor: &mut Cursor<'_, '_>) -> Result<Sync, TextFault>
+fn sync<'t>(alloc: Global, cursor: &mut Cursor<'_, 't>) -> Result<Sync<'t>, TextFault>
     ensures { Reads (spec.sync cursor.old) result cursor.new }
 {
     let when = trigger(alloc, cursor)?;
@@ -261,10 +276,10 @@ fn sync(alloc: Global, cursor: &mut Cursor<'_, '_>) -> Result<Sync, TextFault>
 
 /// Reads one sync, if it is one.
 #[tactic(auto, unfolding(crate::specs::Processes::sync_part))]
-fn sync_part(
+fn sync_part<'t>(
     alloc: Global,
-    cursor: &mut Cursor<'_, '_>,
-    found: &mut Items<Sync>,
+    cursor: &mut Cursor<'_, 't>,
+    found: &mut Items<Sync<'t>>,
 ) -> Result<bool, TextFault>
     ensures { Steps (spec.sync_part found.old cursor.old) result found.new cursor.new }
 {
@@ -277,7 +292,7 @@ fn sync_part(
 
 /// Reads the syncs of a process, as many as there are.
 #[tactic(auto, unfolding(crate::specs::Processes::syncs))]
-fn syncs(alloc: Global, cursor: &mut Cursor<'_, '_>) -> Result<Items<Sync>, TextFault>
+fn syncs<'t>(alloc: Global, cursor: &mut Cursor<'_, 't>) -> Result<Items<Sync<'t>>, TextFault>
     ensures { Reads (spec.syncs cursor.old) result cursor.new }
 {
     let mut found = Items::new(alloc);
@@ -291,14 +306,14 @@ fn syncs(alloc: Global, cursor: &mut Cursor<'_, '_>) -> Result<Items<Sync>, Text
 
 /// Reads a process, from behind its word on, which stands at this place.
 #[tactic(auto, unfolding(crate::specs::Processes::process))]
-pub(crate) fn process_at(
+pub(crate) fn process_at<'t>(
     alloc: Global,
-    cursor: &mut Cursor<'_, '_>,
+    cursor: &mut Cursor<'_, 't>,
     place: Place,
-) -> Result<Process, TextFault>
+) -> Result<Process<'t>, TextFault>
     ensures { Reads (spec.process place cursor.old) result cursor.new }
 {
-    let name = cursor.identifier(alloc)?;
+    let name = cursor.identifier()?;
     cursor.expect(Sign::EndOfLine)?;
     let body = body(alloc, cursor, DEEPEST)?;
     let syncs = syncs(alloc, cursor)?;

@@ -6,7 +6,10 @@ use crate::module::Attribute;
 use crate::sig::Const;
 
 /// The value of the attribute with this name, or none. Of several with one name the last counts.
-pub fn attribute_value<'a>(attributes: &'a [Attribute], name: &[u8]) -> Option<&'a Const>
+pub fn attribute_value<'a, 't>(
+    attributes: &'a [Attribute<'t>],
+    name: &[u8],
+) -> Option<&'a Const<'t>>
     ensures { option_copied result ≡ attribute_value name.now attributes.now }
 {
     let mut found = None;

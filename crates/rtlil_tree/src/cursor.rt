@@ -5,9 +5,7 @@ ghost use Rattle.rtlil_tree.specs.Input.{Reads, start};
 ghost use Rattle.rtlil_lexer.specs.declared.fault.TextFaultKind.TheVariants.{Syntax};
 
 use crate::place::Place;
-use rtlil_lexer::{TextFault, TextFaultKind, Token, TokenKind};
-use sim_base::Name;
-use std::alloc::Global;
+use rtlil_lexer::{Spelling, TextFault, TextFaultKind, Token, TokenKind};
 use std::marker::Model;
 
 /// A token that carries nothing.
@@ -196,14 +194,13 @@ impl<'a, 't> Cursor<'a, 't> {
     }
 
     #[tactic(auto, unfolding(crate::specs::Input::identifier))]
-    pub(crate) fn identifier(&mut self, alloc: Global) -> Result<Name, TextFault>
+    pub(crate) fn identifier(&mut self) -> Result<Spelling<'t>, TextFault>
         ensures { Reads (input.identifier self.old) result self.new }
     {
         match self.peek() {
             Some(TokenKind::Identifier(spelling)) => {
-                let name = spelling.to_name(alloc)?;
                 self.step();
-                Ok(name)
+                Ok(spelling.copied())
             }
             _ => Err(self.refuse()),
         }

@@ -3,13 +3,13 @@ use crate::module::{Attribute, Module, Statement};
 use sqlite_items::Items;
 
 #[derive(Drop)]
-pub(crate) struct Statements {
-    pub(crate) waiting: Items<Attribute>,
-    pub(crate) found: Items<Statement>,
+pub(crate) struct Statements<'t> {
+    pub(crate) waiting: Items<Attribute<'t>>,
+    pub(crate) found: Items<Statement<'t>>,
 }
 
 #[derive(Drop)]
-pub(crate) struct Modules {
-    pub(crate) waiting: Items<Attribute>,
-    pub(crate) found: Items<Module>,
+pub(crate) struct Modules<'t> {
+    pub(crate) waiting: Items<Attribute<'t>>,
+    pub(crate) found: Items<Module<'t>>,
 }

@@ -16,20 +16,20 @@ use std::alloc::Global;
 
 /// Reads one statement, to which the attributes belong that stand before it.
 #[tactic(auto, unfolding(crate::specs::Modules::statement_with))]
-fn statement_with(
+fn statement_with<'t>(
     alloc: Global,
-    cursor: &mut Cursor<'_, '_>,
-    waiting: Items<Attribute>,
-) -> Result<Statement, TextFault>
-    ensures { Reads (spec.statement_with waiting cursor.old) result cursor.new }
+    cursor: &mut Cursor<'_, 't>,
+    waiting: Items<Attribute<'t>>,
+) -> Result<Statement<'t>, TextFault>
+    ensures { Reads (spec.statement_with waiting.entry cursor.old) result cursor.new }
 {
     let place = cursor.place();
     if cursor.eat_word(b"parameter") {
-        Ok(Statement::Parameter(parameter(alloc, cursor)?))
+        Ok(Statement::Parameter(parameter(cursor)?))
     } else if cursor.eat_word(b"wire") {
-        Ok(Statement::Wire(wire(alloc, cursor, waiting)?))
+        Ok(Statement::Wire(wire(cursor, waiting)?))
     } else if cursor.eat_word(b"memory") {
-        Ok(Statement::Memory(memory(alloc, cursor, waiting)?))
+        Ok(Statement::Memory(memory(cursor, waiting)?))
     } else if cursor.eat_word(b"cell") {
         Ok(Statement::Cell(cell(alloc, cursor, waiting)?))
     } else if cursor.eat_word(b"connect") {
@@ -43,10 +43,10 @@ fn statement_with(
 
 /// Reads a statement behind those of a draft.
 #[tactic(auto, unfolding(crate::specs::Modules::statement_line))]
-fn statement_line(
+fn statement_line<'t>(
     alloc: Global,
-    cursor: &mut Cursor<'_, '_>,
-    draft: &mut Statements,
+    cursor: &mut Cursor<'_, 't>,
+    draft: &mut Statements<'t>,
 ) -> Result<bool, TextFault>
     ensures { Steps (spec.statement_line draft.old cursor.old) result draft.new cursor.new }
 {
@@ -57,17 +57,17 @@ fn statement_line(
 
 /// Reads one line of a module, or several that belong together, and tells whether more may come.
 #[tactic(auto, unfolding(crate::specs::Modules::module_line))]
-fn module_line(
+fn module_line<'t>(
     alloc: Global,
-    cursor: &mut Cursor<'_, '_>,
-    draft: &mut Statements,
+    cursor: &mut Cursor<'_, 't>,
+    draft: &mut Statements<'t>,
 ) -> Result<bool, TextFault>
     ensures { Steps (spec.module_line draft.old cursor.old) result draft.new cursor.new }
 {
     if cursor.eat(Sign::EndOfLine) {
         Ok(true)
     } else if cursor.eat_word(b"attribute") {
-        draft.waiting.push(attribute(alloc, cursor)?)?;
+        draft.waiting.push(attribute(cursor)?)?;
         Ok(true)
     } else if cursor.eat_word(b"end") {
         cursor.expect(Sign::EndOfLine)?;
@@ -79,7 +79,7 @@ fn module_line(
 
 /// Reads the lines of a module, up to its end.
 #[tactic(auto, unfolding(crate::specs::Modules::module_lines))]
-fn module_lines(alloc: Global, cursor: &mut Cursor<'_, '_>) -> Result<Statements, TextFault>
+fn module_lines<'t>(alloc: Global, cursor: &mut Cursor<'_, 't>) -> Result<Statements<'t>, TextFault>
     ensures { Reads (spec.module_lines cursor.old) result cursor.new }
 {
     let mut draft = Statements {
@@ -96,14 +96,14 @@ fn module_lines(alloc: Global, cursor: &mut Cursor<'_, '_>) -> Result<Statements
 
 /// Reads a module, from behind its word on.
 #[tactic(auto, unfolding(crate::specs::Modules::module_with))]
-fn module_with(
+fn module_with<'t>(
     alloc: Global,
-    cursor: &mut Cursor<'_, '_>,
-    attributes: Items<Attribute>,
-) -> Result<Module, TextFault>
-    ensures { Reads (spec.module_with attributes cursor.old) result cursor.new }
+    cursor: &mut Cursor<'_, 't>,
+    attributes: Items<Attribute<'t>>,
+) -> Result<Module<'t>, TextFault>
+    ensures { Reads (spec.module_with attributes.entry cursor.old) result cursor.new }
 {
-    let name = cursor.identifier(alloc)?;
+    let name = cursor.identifier()?;
     cursor.expect(Sign::EndOfLine)?;
     let lines = module_lines(alloc, cursor)?;
     Ok(Module {
@@ -115,10 +115,10 @@ fn module_with(
 
 /// Reads a module behind those of a draft, from behind its word on.
 #[tactic(auto, unfolding(crate::specs::Modules::module_part))]
-fn module_part(
+fn module_part<'t>(
     alloc: Global,
-    cursor: &mut Cursor<'_, '_>,
-    draft: &mut Modules,
+    cursor: &mut Cursor<'_, 't>,
+    draft: &mut Modules<'t>,
 ) -> Result<bool, TextFault>
     ensures { Steps (spec.module_part draft.old cursor.old) result draft.new cursor.new }
 {
@@ -129,10 +129,10 @@ fn module_part(
 
 /// Reads one line of a file, or several that belong together, and tells whether more may come.
 #[tactic(auto, unfolding(crate::specs::Modules::file_line))]
-fn file_line(
+fn file_line<'t>(
     alloc: Global,
-    cursor: &mut Cursor<'_, '_>,
-    draft: &mut Modules,
+    cursor: &mut Cursor<'_, 't>,
+    draft: &mut Modules<'t>,
 ) -> Result<bool, TextFault>
     ensures { Steps (spec.file_line draft.old cursor.old) result draft.new cursor.new }
 {
@@ -143,10 +143,10 @@ fn file_line(
     } else if cursor.eat_word(b"autoidx") {
         cursor.integer()?;
         cursor.expect(Sign::EndOfLine)?;
-        draft.waiting = Items::new(alloc);
+        drop(std::mem::replace(&mut draft.waiting, Items::new(alloc)));
         Ok(true)
     } else if cursor.eat_word(b"attribute") {
-        draft.waiting.push(attribute(alloc, cursor)?)?;
+        draft.waiting.push(attribute(cursor)?)?;
         Ok(true)
     } else if cursor.eat_word(b"module") {
         module_part(alloc, cursor, draft)
@@ -157,7 +157,7 @@ fn file_line(
 
 /// Reads the lines of a file, up to the last.
 #[tactic(auto, unfolding(crate::specs::Modules::file_lines))]
-fn file_lines(alloc: Global, cursor: &mut Cursor<'_, '_>) -> Result<Modules, TextFault>
+fn file_lines<'t>(alloc: Global, cursor: &mut Cursor<'_, 't>) -> Result<Modules<'t>, TextFault>
     ensures { Reads (spec.file_lines cursor.old) result cursor.new }
 {
     let mut draft = Modules {
@@ -174,7 +174,7 @@ fn file_lines(alloc: Global, cursor: &mut Cursor<'_, '_>) -> Result<Modules, Tex
 
 /// Reads a file.
 #[tactic(auto, unfolding(crate::specs::Modules::file))]
-fn whole_file(alloc: Global, cursor: &mut Cursor<'_, '_>) -> Result<File, TextFault>
+fn whole_file<'t>(alloc: Global, cursor: &mut Cursor<'_, 't>) -> Result<File<'t>, TextFault>
     ensures { Reads (spec.file cursor.old) result cursor.new }
 {
     let lines = file_lines(alloc, cursor)?;
@@ -210,7 +210,7 @@ fn whole_file(alloc: Global, cursor: &mut Cursor<'_, '_>) -> Result<File, TextFa
 /// them are open already, `Process` at `global` behind `sync` and at `memwr` where a line of a sync may begin, and
 /// `Syntax` at each other one, of which are an integer below 0 as a width or in a slice. Where the tokens end too early,
 /// it is `Syntax` at the last one. `NoMemory` comes where there was no memory for the tree, and for nothing else.
-pub fn parse(alloc: Global, tokens: &[Token<'_>]) -> Result<File, TextFault>
+pub fn parse<'t>(alloc: Global, tokens: &[Token<'t>]) -> Result<File<'t>, TextFault>
     ensures tree { IfOk result (λ file. parsed tokens.now ≡ Ok file) }
     ensures fault { IfErr result (λ fault. Fails fault (parsed tokens.now)) }
 {

@@ -1,40 +1,40 @@
 //! A file and its modules, as they are written.
 use crate::process::Process;
 use crate::sig::{Const, Sig};
-use sim_base::Name;
+use rtlil_lexer::Spelling;
 use sqlite_items::Items;
 
 /// The modules of a file, in their order.
 #[derive(Drop)]
-pub struct File {
-    pub modules: Items<Module>,
+pub struct File<'t> {
+    pub modules: Items<Module<'t>>,
 }
 
 #[derive(Drop)]
-pub struct Module {
+pub struct Module<'t> {
     /// The identifier as written.
-    pub name: Name,
+    pub name: Spelling<'t>,
     /// As written; of equal names the last counts.
-    pub attributes: Items<Attribute>,
-    pub statements: Items<Statement>,
+    pub attributes: Items<Attribute<'t>>,
+    pub statements: Items<Statement<'t>>,
 }
 
 /// A line of a module, or several that belong together.
 #[derive(Drop)]
-pub enum Statement {
-    Parameter(Parameter),
-    Wire(Wire),
-    Memory(Memory),
-    Cell(Cell),
-    Connect(Assignment),
-    Process(Process),
+pub enum Statement<'t> {
+    Parameter(Parameter<'t>),
+    Wire(Wire<'t>),
+    Memory(Memory<'t>),
+    Cell(Cell<'t>),
+    Connect(Assignment<'t>),
+    Process(Process<'t>),
 }
 
 #[derive(Drop)]
-pub struct Attribute {
+pub struct Attribute<'t> {
     /// The identifier as written.
-    pub name: Name,
-    pub value: Const,
+    pub name: Spelling<'t>,
+    pub value: Const<'t>,
 }
 
 /// What the value of a parameter is said to be.
@@ -47,11 +47,11 @@ pub enum ParameterKind {
 
 /// A parameter that a module takes.
 #[derive(Drop)]
-pub struct Parameter {
+pub struct Parameter<'t> {
     pub kind: ParameterKind,
     /// The identifier as written.
-    pub name: Name,
-    pub default: Option<Const>,
+    pub name: Spelling<'t>,
+    pub default: Option<Const<'t>>,
 }
 
 /// What may stand between `wire` and its identifier; of equal options the last counts.
@@ -72,12 +72,12 @@ pub struct WireOptions {
 }
 
 #[derive(Drop)]
-pub struct Wire {
+pub struct Wire<'t> {
     /// The identifier as written.
-    pub name: Name,
+    pub name: Spelling<'t>,
     pub options: WireOptions,
     /// As written; of equal names the last counts.
-    pub attributes: Items<Attribute>,
+    pub attributes: Items<Attribute<'t>>,
 }
 
 /// What may stand between `memory` and its identifier; of equal options the last counts.
@@ -92,46 +92,46 @@ pub struct MemoryOptions {
 }
 
 #[derive(Drop)]
-pub struct Memory {
+pub struct Memory<'t> {
     /// The identifier as written.
-    pub name: Name,
+    pub name: Spelling<'t>,
     pub options: MemoryOptions,
     /// As written; of equal names the last counts.
-    pub attributes: Items<Attribute>,
+    pub attributes: Items<Attribute<'t>>,
 }
 
 /// What a cell gives a parameter of its type.
 #[derive(Drop)]
-pub struct Setting {
+pub struct Setting<'t> {
     pub kind: ParameterKind,
     /// The identifier as written.
-    pub name: Name,
-    pub value: Const,
+    pub name: Spelling<'t>,
+    pub value: Const<'t>,
 }
 
 /// What a port of a cell is joined to.
 #[derive(Drop)]
-pub struct Connection {
+pub struct Connection<'t> {
     /// The identifier as written.
-    pub port: Name,
-    pub sig: Sig,
+    pub port: Spelling<'t>,
+    pub sig: Sig<'t>,
 }
 
 #[derive(Drop)]
-pub struct Cell {
+pub struct Cell<'t> {
     /// The identifier of its type, as written.
-    pub kind: Name,
+    pub kind: Spelling<'t>,
     /// The identifier as written.
-    pub name: Name,
+    pub name: Spelling<'t>,
     /// As written; of equal names the last counts.
-    pub attributes: Items<Attribute>,
-    pub settings: Items<Setting>,
-    pub connections: Items<Connection>,
+    pub attributes: Items<Attribute<'t>>,
+    pub settings: Items<Setting<'t>>,
+    pub connections: Items<Connection<'t>>,
 }
 
 /// Two signals, the left of which takes the value of the right.
 #[derive(Drop)]
-pub struct Assignment {
-    pub left: Sig,
-    pub right: Sig,
+pub struct Assignment<'t> {
+    pub left: Sig<'t>,
+    pub right: Sig<'t>,
 }

@@ -2,57 +2,57 @@
 use crate::module::Assignment;
 use crate::place::Place;
 use crate::sig::Sig;
-use sim_base::Name;
+use rtlil_lexer::Spelling;
 use sqlite_items::Items;
 
 #[derive(Drop)]
-pub struct Process {
+pub struct Process<'t> {
     /// Where the word `process` stands.
     pub place: Place,
     /// The identifier as written.
-    pub name: Name,
-    pub body: Items<Action>,
-    pub syncs: Items<Sync>,
+    pub name: Spelling<'t>,
+    pub body: Items<Action<'t>>,
+    pub syncs: Items<Sync<'t>>,
 }
 
 /// A part of a process or of a case. Of two that give one bit a value the later counts.
 #[cycle(action)]
 #[derive(Drop)]
-pub enum Action {
-    Assign(Assignment),
-    Switch(Switch),
+pub enum Action<'t> {
+    Assign(Assignment<'t>),
+    Switch(Switch<'t>),
 }
 
 #[cycle(action)]
 #[derive(Drop)]
-pub struct Switch {
-    pub on: Sig,
+pub struct Switch<'t> {
+    pub on: Sig<'t>,
     /// The first that fits is taken.
-    pub cases: Items<Case>,
+    pub cases: Items<Case<'t>>,
 }
 
 #[cycle(action)]
 #[derive(Drop)]
-pub struct Case {
+pub struct Case<'t> {
     /// What it fits; where there is nothing, it fits always.
-    pub compare: Items<Sig>,
-    pub body: Items<Action>,
+    pub compare: Items<Sig<'t>>,
+    pub body: Items<Action<'t>>,
 }
 
 /// When the updates of a process are made.
 #[derive(Drop)]
-pub enum Trigger {
+pub enum Trigger<'t> {
     Always,
     Init,
-    Posedge(Sig),
-    Negedge(Sig),
-    Edge(Sig),
-    High(Sig),
-    Low(Sig),
+    Posedge(Sig<'t>),
+    Negedge(Sig<'t>),
+    Edge(Sig<'t>),
+    High(Sig<'t>),
+    Low(Sig<'t>),
 }
 
 #[derive(Drop)]
-pub struct Sync {
-    pub when: Trigger,
-    pub updates: Items<Assignment>,
+pub struct Sync<'t> {
+    pub when: Trigger<'t>,
+    pub updates: Items<Assignment<'t>>,
 }

@@ -1,17 +1,16 @@
 //! Values and signals, as they are written.
-use sim_base::{Bits, Name};
+use rtlil_lexer::{Constant, Quoted, Spelling};
 use sqlite_items::Items;
 
 /// A value, as it is written.
 #[derive(Debug, Drop)]
-pub enum Const {
-    /// Digits behind a width. All three have that width: a bit of `value` is 1 where the digit is 1, one of
-    /// `known` where it is 0 or 1, and one of `any` where it is `-`. Digits that were not written are filled.
-    Digits { value: Bits, known: Bits, any: Bits },
+pub enum Const<'t> {
+    /// Digits behind a width.
+    Digits(Constant<'t>),
     /// It stands for 32 bits in two's complement.
     Integer(i32),
     /// Its bytes, with escapes resolved. It stands for 8 bits a byte, the first byte the most significant.
-    String(Name),
+    String(Quoted<'t>),
 }
 
 /// A choice of bits of a signal, both ends included, counted from its least bit 0: `[high:low]`, and `[low]`
@@ -25,18 +24,18 @@ pub struct Slice {
 /// A signal: a part and the slices behind it, each of which chooses from what stands before it.
 #[cycle(sig)]
 #[derive(Drop)]
-pub struct Sig {
-    pub part: SigPart,
+pub struct Sig<'t> {
+    pub part: SigPart<'t>,
     pub slices: Items<Slice>,
 }
 
 /// What a signal is before its slices.
 #[cycle(sig)]
 #[derive(Drop)]
-pub enum SigPart {
-    Const(Const),
+pub enum SigPart<'t> {
+    Const(Const<'t>),
     /// The identifier of a wire, as written.
-    Wire(Name),
+    Wire(Spelling<'t>),
     /// The most significant one stands first.
-    Concatenation(Items<Sig>),
+    Concatenation(Items<Sig<'t>>),
 }

@@ -12,7 +12,7 @@ use std::alloc::Global;
 const DEEPEST: u32 = 256;
 
 #[tactic(auto, unfolding(crate::specs::Sigs::constant))]
-pub(crate) fn constant(alloc: Global, cursor: &mut Cursor<'_, '_>) -> Result<Const, TextFault>
+pub(crate) fn constant<'t>(cursor: &mut Cursor<'_, 't>) -> Result<Const<'t>, TextFault>
     ensures { Reads (spec.constant cursor.old) result cursor.new }
 {
     match cursor.peek() {
@@ -21,16 +21,12 @@ pub(crate) fn constant(alloc: Global, cursor: &mut Cursor<'_, '_>) -> Result<Con
             Ok(Const::Integer(*n))
         }
         Some(TokenKind::Constant(constant)) => {
-            let value = constant.value(alloc)?;
-            let known = constant.known(alloc)?;
-            let any = constant.any(alloc)?;
             cursor.step();
-            Ok(Const::Digits { value, known, any })
+            Ok(Const::Digits(constant.copied()))
         }
         Some(TokenKind::String(quoted)) => {
-            let text = quoted.to_name(alloc)?;
             cursor.step();
-            Ok(Const::String(text))
+            Ok(Const::String(quoted.copied()))
         }
         _ => Err(cursor.refuse()),
     }
@@ -68,7 +64,11 @@ fn slices(alloc: Global, cursor: &mut Cursor<'_, '_>) -> Result<Items<Slice>, Te
 /// Reads the parts of a concatenation and the brace behind them.
 #[cycle(signal)]
 #[tactic(auto, unfolding(crate::specs::Sigs::parts))]
-fn parts(alloc: Global, cursor: &mut Cursor<'_, '_>, depth: u32) -> Result<Items<Sig>, TextFault>
+fn parts<'t>(
+    alloc: Global,
+    cursor: &mut Cursor<'_, 't>,
+    depth: u32,
+) -> Result<Items<Sig<'t>>, TextFault>
     ensures { Reads (spec.parts (spec.sig_within depth) cursor.old) result cursor.new }
 {
     let mut found = Items::new(alloc);
@@ -83,11 +83,11 @@ fn parts(alloc: Global, cursor: &mut Cursor<'_, '_>, depth: u32) -> Result<Items
 
 /// Reads a concatenation, where so many braces may be open at once.
 #[cycle(signal)]
-fn braces_within(
+fn braces_within<'t>(
     alloc: Global,
-    cursor: &mut Cursor<'_, '_>,
+    cursor: &mut Cursor<'_, 't>,
     depth: u32,
-) -> Result<Items<Sig>, TextFault>
+) -> Result<Items<Sig<'t>>, TextFault>
     ensures { Reads (spec.braces_within depth cursor.old) result cursor.new }
 {
     if depth == 0 {
@@ -99,7 +99,11 @@ fn braces_within(
 
 #[cycle(signal)]
 #[tactic(auto, unfolding(crate::specs::Sigs::part_with))]
-fn part_within(alloc: Global, cursor: &mut Cursor<'_, '_>, depth: u32) -> Result<SigPart, TextFault>
+fn part_within<'t>(
+    alloc: Global,
+    cursor: &mut Cursor<'_, 't>,
+    depth: u32,
+) -> Result<SigPart<'t>, TextFault>
     ensures { Reads (spec.part_with (spec.braces_within depth) cursor.old) result cursor.new }
 {
     if cursor.sees(Sign::LeftBrace) {
@@ -107,17 +111,20 @@ fn part_within(alloc: Global, cursor: &mut Cursor<'_, '_>, depth: u32) -> Result
     }
     match cursor.peek() {
         Some(TokenKind::Identifier(spelling)) => {
-            let name = spelling.to_name(alloc)?;
             cursor.step();
-            Ok(SigPart::Wire(name))
+            Ok(SigPart::Wire(spelling.copied()))
         }
-        _ => Ok(SigPart::Const(constant(alloc, cursor)?)),
+        _ => Ok(SigPart::Const(constant(cursor)?)),
     }
 }
 
 #[cycle(signal)]
 #[tactic(auto, unfolding(crate::specs::Sigs::sig_with))]
-fn sig_within(alloc: Global, cursor: &mut Cursor<'_, '_>, depth: u32) -> Result<Sig, TextFault>
+fn sig_within<'t>(
+    alloc: Global,
+    cursor: &mut Cursor<'_, 't>,
+    depth: u32,
+) -> Result<Sig<'t>, TextFault>
     ensures { Reads (spec.sig_within depth cursor.old) result cursor.new }
 {
     let part = part_within(alloc, cursor, depth)?;
@@ -126,7 +133,7 @@ fn sig_within(alloc: Global, cursor: &mut Cursor<'_, '_>, depth: u32) -> Result<
 }
 
 /// Reads a signal.
-pub(crate) fn signal(alloc: Global, cursor: &mut Cursor<'_, '_>) -> Result<Sig, TextFault>
+pub(crate) fn signal<'t>(alloc: Global, cursor: &mut Cursor<'_, 't>) -> Result<Sig<'t>, TextFault>
     ensures { Reads (spec.sig cursor.old) result cursor.new }
 {
     sig_within(alloc, cursor, DEEPEST)

@@ -10,28 +10,27 @@ use crate::module::{
 };
 use crate::sig::Const;
 use crate::signal::{constant, signal};
-use rtlil_lexer::TextFault;
-use sim_base::Name;
+use rtlil_lexer::{Spelling, TextFault};
 use sqlite_items::Items;
 use std::alloc::Global;
 
 /// Reads an attribute, from behind its word on.
 #[tactic(auto, unfolding(crate::specs::Statements::attribute))]
-pub(crate) fn attribute(alloc: Global, cursor: &mut Cursor<'_, '_>) -> Result<Attribute, TextFault>
+pub(crate) fn attribute<'t>(cursor: &mut Cursor<'_, 't>) -> Result<Attribute<'t>, TextFault>
     ensures { Reads (spec.attribute cursor.old) result cursor.new }
 {
-    let name = cursor.identifier(alloc)?;
-    let value = constant(alloc, cursor)?;
+    let name = cursor.identifier()?;
+    let value = constant(cursor)?;
     cursor.expect(Sign::EndOfLine)?;
     Ok(Attribute { name, value })
 }
 
 /// Reads two signals and the line's end.
 #[tactic(auto, unfolding(crate::specs::Statements::assignment))]
-pub(crate) fn assignment(
+pub(crate) fn assignment<'t>(
     alloc: Global,
-    cursor: &mut Cursor<'_, '_>,
-) -> Result<Assignment, TextFault>
+    cursor: &mut Cursor<'_, 't>,
+) -> Result<Assignment<'t>, TextFault>
     ensures { Reads (spec.assignment cursor.old) result cursor.new }
 {
     let left = signal(alloc, cursor)?;
@@ -54,24 +53,24 @@ fn parameter_kind(cursor: &mut Cursor<'_, '_>) -> Result<ParameterKind, TextFaul
 }
 
 #[tactic(auto, unfolding(crate::specs::Statements::default))]
-fn default(alloc: Global, cursor: &mut Cursor<'_, '_>) -> Result<Option<Const>, TextFault>
+fn default<'t>(cursor: &mut Cursor<'_, 't>) -> Result<Option<Const<'t>>, TextFault>
     ensures { Reads (spec.default cursor.old) result cursor.new }
 {
     if cursor.sees(Sign::EndOfLine) {
         Ok(None)
     } else {
-        Ok(Some(constant(alloc, cursor)?))
+        Ok(Some(constant(cursor)?))
     }
 }
 
 /// Reads a parameter of a module, from behind its word on.
 #[tactic(auto, unfolding(crate::specs::Statements::parameter))]
-pub(crate) fn parameter(alloc: Global, cursor: &mut Cursor<'_, '_>) -> Result<Parameter, TextFault>
+pub(crate) fn parameter<'t>(cursor: &mut Cursor<'_, 't>) -> Result<Parameter<'t>, TextFault>
     ensures { Reads (spec.parameter cursor.old) result cursor.new }
 {
     let kind = parameter_kind(cursor)?;
-    let name = cursor.identifier(alloc)?;
-    let default = default(alloc, cursor)?;
+    let name = cursor.identifier()?;
+    let default = default(cursor)?;
     cursor.expect(Sign::EndOfLine)?;
     Ok(Parameter {
         kind,
@@ -128,15 +127,14 @@ fn wire_options(cursor: &mut Cursor<'_, '_>) -> Result<WireOptions, TextFault>
 
 /// Reads a wire, from behind its word on.
 #[tactic(auto, unfolding(crate::specs::Statements::wire))]
-pub(crate) fn wire(
-    alloc: Global,
-    cursor: &mut Cursor<'_, '_>,
-    attributes: Items<Attribute>,
-) -> Result<Wire, TextFault>
-    ensures { Reads (spec.wire attributes cursor.old) result cursor.new }
+pub(crate) fn wire<'t>(
+    cursor: &mut Cursor<'_, 't>,
+    attributes: Items<Attribute<'t>>,
+) -> Result<Wire<'t>, TextFault>
+    ensures { Reads (spec.wire attributes.entry cursor.old) result cursor.new }
 {
     let options = wire_options(cursor)?;
-    let name = cursor.identifier(alloc)?;
+    let name = cursor.identifier()?;
     cursor.expect(Sign::EndOfLine)?;
     Ok(Wire {
         name,
@@ -184,15 +182,14 @@ fn memory_options(cursor: &mut Cursor<'_, '_>) -> Result<MemoryOptions, TextFaul
 
 /// Reads a memory, from behind its word on.
 #[tactic(auto, unfolding(crate::specs::Statements::memory))]
-pub(crate) fn memory(
-    alloc: Global,
-    cursor: &mut Cursor<'_, '_>,
-    attributes: Items<Attribute>,
-) -> Result<Memory, TextFault>
-    ensures { Reads (spec.memory attributes cursor.old) result cursor.new }
+pub(crate) fn memory<'t>(
+    cursor: &mut Cursor<'_, 't>,
+    attributes: Items<Attribute<'t>>,
+) -> Result<Memory<'t>, TextFault>
+    ensures { Reads (spec.memory attributes.entry cursor.old) result cursor.new }
 {
     let options = memory_options(cursor)?;
-    let name = cursor.identifier(alloc)?;
+    let name = cursor.identifier()?;
     cursor.expect(Sign::EndOfLine)?;
     Ok(Memory {
         name,
@@ -203,22 +200,22 @@ pub(crate) fn memory(
 
 /// Reads what a cell gives a parameter, from behind its word on.
 #[tactic(auto, unfolding(crate::specs::Statements::setting))]
-fn setting(alloc: Global, cursor: &mut Cursor<'_, '_>) -> Result<Setting, TextFault>
+fn setting<'t>(cursor: &mut Cursor<'_, 't>) -> Result<Setting<'t>, TextFault>
     ensures { Reads (spec.setting cursor.old) result cursor.new }
 {
     let kind = parameter_kind(cursor)?;
-    let name = cursor.identifier(alloc)?;
-    let value = constant(alloc, cursor)?;
+    let name = cursor.identifier()?;
+    let value = constant(cursor)?;
     cursor.expect(Sign::EndOfLine)?;
     Ok(Setting { kind, name, value })
 }
 
 /// Reads what a port of a cell is joined to, from behind its word on.
 #[tactic(auto, unfolding(crate::specs::Statements::connection))]
-fn connection(alloc: Global, cursor: &mut Cursor<'_, '_>) -> Result<Connection, TextFault>
+fn connection<'t>(alloc: Global, cursor: &mut Cursor<'_, 't>) -> Result<Connection<'t>, TextFault>
     ensures { Reads (spec.connection cursor.old) result cursor.new }
 {
-    let port = cursor.identifier(alloc)?;
+    let port = cursor.identifier()?;
     let sig = signal(alloc, cursor)?;
     cursor.expect(Sign::EndOfLine)?;
     Ok(Connection { port, sig })
@@ -226,16 +223,20 @@ fn connection(alloc: Global, cursor: &mut Cursor<'_, '_>) -> Result<Connection, 
 
 /// Reads one line of a cell, and tells whether more may come.
 #[tactic(auto, unfolding(crate::specs::Statements::cell_line))]
-fn cell_line(alloc: Global, cursor: &mut Cursor<'_, '_>, cell: &mut Cell) -> Result<bool, TextFault>
+fn cell_line<'t>(
+    alloc: Global,
+    cursor: &mut Cursor<'_, 't>,
+    cell: &mut Cell<'t>,
+) -> Result<bool, TextFault>
     ensures { Steps (spec.cell_line cell.old cursor.old) result cell.new cursor.new }
 {
     if cursor.eat(Sign::EndOfLine) {
         Ok(true)
     } else if cursor.eat_word(b"attribute") {
-        attribute(alloc, cursor)?;
+        attribute(cursor)?;
         Ok(true)
     } else if cursor.eat_word(b"parameter") {
-        cell.settings.push(setting(alloc, cursor)?)?;
+        cell.settings.push(setting(cursor)?)?;
         Ok(true)
     } else if cursor.eat_word(b"connect") {
         cell.connections.push(connection(alloc, cursor)?)?;
@@ -249,8 +250,13 @@ fn cell_line(alloc: Global, cursor: &mut Cursor<'_, '_>, cell: &mut Cell) -> Res
 }
 
 /// A cell that has nothing yet.
-fn opened(alloc: Global, kind: Name, name: Name, attributes: Items<Attribute>) -> Cell
-    ensures { result ≡ spec.opened kind name attributes }
+fn opened<'t>(
+    alloc: Global,
+    kind: Spelling<'t>,
+    name: Spelling<'t>,
+    attributes: Items<Attribute<'t>>,
+) -> Cell<'t>
+    ensures { result ≡ spec.opened kind.entry name.entry attributes.entry }
 {
     Cell {
         kind,
@@ -263,8 +269,12 @@ fn opened(alloc: Global, kind: Name, name: Name, attributes: Items<Attribute>) -
 
 /// Reads the lines of a cell, up to its end.
 #[tactic(auto, unfolding(crate::specs::Statements::cell_lines))]
-fn cell_lines(alloc: Global, cursor: &mut Cursor<'_, '_>, mut cell: Cell) -> Result<Cell, TextFault>
-    ensures { Reads (spec.cell_lines cell cursor.old) result cursor.new }
+fn cell_lines<'t>(
+    alloc: Global,
+    cursor: &mut Cursor<'_, 't>,
+    mut cell: Cell<'t>,
+) -> Result<Cell<'t>, TextFault>
+    ensures { Reads (spec.cell_lines cell.entry cursor.old) result cursor.new }
 {
     for _turn in 0..cursor.left() {
         if !cell_line(alloc, cursor, &mut cell)? {
@@ -276,15 +286,15 @@ fn cell_lines(alloc: Global, cursor: &mut Cursor<'_, '_>, mut cell: Cell) -> Res
 
 /// Reads a cell, from behind its word on.
 #[tactic(auto, unfolding(crate::specs::Statements::cell))]
-pub(crate) fn cell(
+pub(crate) fn cell<'t>(
     alloc: Global,
-    cursor: &mut Cursor<'_, '_>,
-    attributes: Items<Attribute>,
-) -> Result<Cell, TextFault>
-    ensures { Reads (spec.cell attributes cursor.old) result cursor.new }
+    cursor: &mut Cursor<'_, 't>,
+    attributes: Items<Attribute<'t>>,
+) -> Result<Cell<'t>, TextFault>
+    ensures { Reads (spec.cell attributes.entry cursor.old) result cursor.new }
 {
-    let kind = cursor.identifier(alloc)?;
-    let name = cursor.identifier(alloc)?;
+    let kind = cursor.identifier()?;
+    let name = cursor.identifier()?;
     cursor.expect(Sign::EndOfLine)?;
     cell_lines(alloc, cursor, opened(alloc, kind, name, attributes))
 }
