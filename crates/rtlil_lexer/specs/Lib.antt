@@ -7,3 +7,4 @@ pub mod Pieces
 pub mod Tokens
 pub mod Cursors
 pub mod Reading
+pub mod Faults

@@ -1,5 +1,6 @@
 //! Faults of a text.
 ghost use Rattle.std.specs.Prelude.{◌≡◌};
+ghost use Rattle.rtlil_lexer.specs.Faults.{text_fault_name, text_fault_number};
 ghost use Rattle.rtlil_lexer.specs.declared.fault.TextFault.TheVariants.{NoMemory as OutOfMemory};
 
 use sim_base::NoMemory;
@@ -28,6 +29,36 @@ pub enum TextFaultKind {
     /// 6: a part of a process that is not read.
     #[error("a part of a process that is not read")]
     Process,
+}
+
+impl TextFaultKind {
+    /// The number under which a refusal is printed.
+    pub fn number(self) -> u8
+        ensures { result ≡ text_fault_number self }
+    {
+        match self {
+            TextFaultKind::BadByte => 1,
+            TextFaultKind::BadString => 2,
+            TextFaultKind::BadNumber => 3,
+            TextFaultKind::Syntax => 4,
+            TextFaultKind::Nesting => 5,
+            TextFaultKind::Process => 6,
+        }
+    }
+
+    /// The name that is printed.
+    pub fn name(self) -> &'static str
+        ensures { result.now ≡ text_fault_name self }
+    {
+        match self {
+            TextFaultKind::BadByte => "BadByte",
+            TextFaultKind::BadString => "BadString",
+            TextFaultKind::BadNumber => "BadNumber",
+            TextFaultKind::Syntax => "Syntax",
+            TextFaultKind::Nesting => "Nesting",
+            TextFaultKind::Process => "Process",
+        }
+    }
 }
 
 /// Why a text was not read.

@@ -8,6 +8,7 @@ ghost use Rattle.rtlil_tree.specs.Modules.{parsed};
 use crate::action::process_at;
 use crate::cursor::{Cursor, Sign};
 use crate::draft::{Modules, Statements};
+use crate::list::push_one;
 use crate::module::{Attribute, File, Module, Statement};
 use crate::statement::{assignment, attribute, cell, memory, parameter, wire};
 use rtlil_lexer::{TextFault, Token};
@@ -67,7 +68,7 @@ fn module_line<'t>(
     if cursor.eat(Sign::EndOfLine) {
         Ok(true)
     } else if cursor.eat_word(b"attribute") {
-        draft.waiting.push(attribute(cursor)?)?;
+        push_one(alloc, &mut draft.waiting, attribute(cursor)?)?;
         Ok(true)
     } else if cursor.eat_word(b"end") {
         cursor.expect(Sign::EndOfLine)?;
@@ -146,7 +147,7 @@ fn file_line<'t>(
         drop(std::mem::replace(&mut draft.waiting, Items::new(alloc)));
         Ok(true)
     } else if cursor.eat_word(b"attribute") {
-        draft.waiting.push(attribute(cursor)?)?;
+        push_one(alloc, &mut draft.waiting, attribute(cursor)?)?;
         Ok(true)
     } else if cursor.eat_word(b"module") {
         module_part(alloc, cursor, draft)

@@ -8,6 +8,7 @@ mod cursor;
 mod draft;
 mod file;
 mod laws;
+mod list;
 mod module;
 mod place;
 mod process;

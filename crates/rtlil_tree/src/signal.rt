@@ -3,6 +3,7 @@ ghost use Rattle.rtlil_tree.specs.Input.{Reads};
 ghost use Rattle.rtlil_tree.specs.Sigs as spec;
 
 use crate::cursor::{Cursor, Sign};
+use crate::list::push_one;
 use crate::sig::{Const, Sig, SigPart, Slice};
 use rtlil_lexer::{TextFault, TextFaultKind, TokenKind};
 use sqlite_items::Items;
@@ -76,7 +77,7 @@ fn parts<'t>(
         if cursor.eat(Sign::RightBrace) {
             return Ok(found);
         }
-        found.push(sig_within(alloc, cursor, depth)?)?;
+        push_one(alloc, &mut found, sig_within(alloc, cursor, depth)?)?;
     }
     Err(cursor.refuse())
 }
