@@ -15,9 +15,10 @@ use Rattle.circuit.specs.Valuation.{valuation}
 use Rattle.circuit.specs.Next.{RegisterInputs, register_inputs, has_edge, is_active, next_by, next_number, next_numbers, all_marked, next_row, next_rows, transparent_read, next_read, next_reads, next_stored, next_mems, next}
 use Rattle.circuit.specs.Rounds.{Run, Standing, parts, settled, settled_within, standing_after, start_state, start_stored}
 use Rattle.circuit.specs.State.{same_state}
-use Rattle.circuit.specs.Valid.{address_width, counts_fit, cell_fits, drive_fits, is_valid, mem_fits, ports_of, read_fits, register_fits, register_has, sig_fits, sig_of, widest, width_where, write_fits}
+use Rattle.circuit.specs.Valid.{address_width, counts_fit, cell_fits, drive_fits, drivers_of, is_valid, mem_fits, ports_of_kind, read_fits, register_fits, register_has, sig_fits, sig_of, widest, width_where, write_fits}
 use Rattle.circuit.specs.Below.{AreConstantsBelow, AreRowsBelow, AreValuesBelow, IsBelow, IsRegisterBelow, IsStateBelow}
 use Rattle.circuit.specs.declared.netlist.Circuit.{Circuit}
+use Rattle.circuit.specs.declared.netlist.Net.{Net}
 use Rattle.circuit.specs.declared.netlist.Piece.{Piece}
 use Rattle.circuit.specs.declared.netlist.Piece.TheVariants as piece
 use Rattle.circuit.specs.declared.register.Reg.{Reg}
@@ -50,7 +51,7 @@ sig_below d small (p ∷ ps) below =
 -- ---- registers
 
 -- what each kind takes, loads and is reset to has the register's width
-by_below : (k : RegKind) (w : ℕ) (a : RegisterInputs) (own : ℕ) → a.input < 2 ^ width_where (ports_of k).d w → a.load < 2 ^ width_where (ports_of k).load w → a.value < 2 ^ w → own < 2 ^ w → next_by k w a own < 2 ^ w
+by_below : (k : RegKind) (w : ℕ) (a : RegisterInputs) (own : ℕ) → a.input < 2 ^ width_where (ports_of_kind k).d w → a.load < 2 ^ width_where (ports_of_kind k).load w → a.value < 2 ^ w → own < 2 ^ w → next_by k w a own < 2 ^ w
 by_below kind.Dff w a own i l v o = cond_below (2 ^ w) a.edge a.input own i o
 by_below kind.Dffe w a own i l v o = cond_below (2 ^ w) (a.edge && a.enabled) a.input own i o
 by_below kind.Adff w a own i l v o = cond_below (2 ^ w) a.reset a.value (cond a.edge a.input own) v (cond_below (2 ^ w) a.edge a.input own i o)
@@ -69,31 +70,31 @@ by_below kind.Dlatchsr w a own i l v o = gathered_below w (λ j. cond (a.cleared
 
 -- the widths that a register needs here
 record HasWidths (r : Reg) : Type 0 where
-  d : sig_width r.d ≡ width_where (ports_of r.kind).d r.width
-  ad : sig_width r.ad ≡ width_where (ports_of r.kind).load r.width
+  d : sig_width r.d ≡ width_where (ports_of_kind r.kind).d r.width
+  ad : sig_width r.ad ≡ width_where (ports_of_kind r.kind).load r.width
   value : r.value.width ≡ r.width
   init : r.init.width ≡ r.width
 
-sig_wide : (c : Circuit) (width : ℕ) (ps : List Piece) → sig_of c width ps ≡ true → sig_width ps ≡ width
-sig_wide c width ps h = eqb-true (sig_width ps) width (and_parts (sig_fits c ps) (sig_width ps == width) h).1
+sig_wide : (nets : List Net) (width : ℕ) (ps : List Piece) → sig_of nets width ps ≡ true → sig_width ps ≡ width
+sig_wide nets width ps h = eqb-true (sig_width ps) width (and_parts (sig_fits nets ps) (sig_width ps == width) h).1
 
 second_and_last : (a b c d e f g : Bool) → (a && (b && (c && (d && (e && (f && g)))))) ≡ true → (b ≡ true) × (g ≡ true)
 second_and_last a b c d e f g h =
     let u = and_parts b _ (and_parts a _ h).1 in
     (u.0, (and_parts f _ (and_parts e _ (and_parts d _ (and_parts c _ u.1).1).1).1).1)
 
-has_widths : (c : Circuit) (r : Reg) → register_fits c r ≡ true → HasWidths r
-has_widths c r h =
-    let p = ports_of r.kind in
-    let a = and_parts (nat_le r.width widest) (register_has c p r && (r.value.width == r.width && r.init.width == r.width)) h in
-    let b = and_parts (register_has c p r) (r.value.width == r.width && r.init.width == r.width) a.1 in
+has_widths : (nets : List Net) (r : Reg) → register_fits nets r ≡ true → HasWidths r
+has_widths nets r h =
+    let p = ports_of_kind r.kind in
+    let a = and_parts (nat_le r.width widest) (register_has nets p r && (r.value.width == r.width && r.init.width == r.width)) h in
+    let b = and_parts (register_has nets p r) (r.value.width == r.width && r.init.width == r.width) a.1 in
     let v = and_parts (r.value.width == r.width) (r.init.width == r.width) b.1 in
-    let s = second_and_last (sig_of c (width_where p.clk 1) r.clk) (sig_of c (width_where p.d r.width) r.d) (sig_of c (width_where p.en 1) r.en)
-    (sig_of c (width_where p.bits r.width) r.set) (sig_of c (cond p.bits r.width (width_where p.reset 1)) r.clr) (sig_of c (width_where p.load 1) r.load)
-    (sig_of c (width_where p.load r.width) r.ad) b.0 in
+    let s = second_and_last (sig_of nets (width_where p.clk 1) r.clk) (sig_of nets (width_where p.d r.width) r.d) (sig_of nets (width_where p.en 1) r.en)
+    (sig_of nets (width_where p.bits r.width) r.set) (sig_of nets (cond p.bits r.width (width_where p.reset 1)) r.clr) (sig_of nets (width_where p.load 1) r.load)
+    (sig_of nets (width_where p.load r.width) r.ad) b.0 in
     record {
-      d = sig_wide c (width_where p.d r.width) r.d s.0;
-      ad = sig_wide c (width_where p.load r.width) r.ad s.1;
+      d = sig_wide nets (width_where p.d r.width) r.d s.0;
+      ad = sig_wide nets (width_where p.load r.width) r.ad s.1;
       value = eqb-true r.value.width r.width v.0;
       init = eqb-true r.init.width r.width v.1;
     }
@@ -180,13 +181,13 @@ fifth_and_sixth a b c d e f rest h =
     let u = and_parts e _ (and_parts d _ (and_parts c _ (and_parts b _ (and_parts a _ h).1).1).1).1 in
     (u.0, (and_parts f rest u.1).0)
 
-valid_parts : (c : Circuit) → is_valid c ≡ true → (list_all (register_fits c) c.regs ≡ true) × (list_all (mem_fits c) c.mems ≡ true)
+valid_parts : (c : Circuit) → is_valid c ≡ true → (list_all (register_fits c.nets) c.regs ≡ true) × (list_all (mem_fits c.nets) c.mems ≡ true)
 valid_parts c valid =
-    fifth_and_sixth (counts_fit c) (list_all (λ x. nat_le x.width widest) c.nets) (list_all (drive_fits c) c.drives) (list_all (cell_fits c) c.cells)
-    (list_all (register_fits c) c.regs) (list_all (mem_fits c) c.mems) _ valid
+    fifth_and_sixth (counts_fit c) (list_all (λ x. nat_le x.width widest) c.nets) (list_all (drive_fits (drivers_of c)) c.drives) (list_all (cell_fits c.nets) c.cells)
+    (list_all (register_fits c.nets) c.regs) (list_all (mem_fits c.nets) c.mems) _ valid
 
 register_widths : (c : Circuit) → is_valid c ≡ true → (n : ℕ) (r : Reg) → slice_get c.regs n ≡ Some r → HasWidths r
-register_widths c valid n r is = has_widths c r (all_at (register_fits c) c.regs n r (valid_parts c valid).0 is)
+register_widths c valid n r is = has_widths c.nets r (all_at (register_fits c.nets) c.regs n r (valid_parts c valid).0 is)
 
 last_two : (a b c d e : Bool) → (a && (b && (c && (d && e)))) ≡ true → (d ≡ true) × (e ≡ true)
 last_two a b c d e h = and_parts d e (and_parts c _ (and_parts b _ (and_parts a _ h).1).1).1
@@ -194,10 +195,10 @@ last_two a b c d e h = and_parts d e (and_parts c _ (and_parts b _ (and_parts a 
 read_width : (c : Circuit) → is_valid c ≡ true → (n port : ℕ) (m : Mem) (p : ReadPort) → slice_get c.mems n ≡ Some m → slice_get m.reads port ≡ Some p → p.init.width ≡ m.width
 read_width c valid n port m p is at =
     let abits = address_width m.reads m.writes in
-    let fits : mem_fits c m ≡ true = all_at (mem_fits c) c.mems n m (valid_parts c valid).1 is in
-    let reads : list_all (read_fits c m abits) m.reads ≡ true = (last_two (nat_le m.width widest) (m.init.width == m.size * m.width) _ (list_all (read_fits c m abits) m.reads) (list_all (write_fits c m abits) m.writes) fits).0 in
-    let read : read_fits c m abits p ≡ true = all_at (read_fits c m abits) m.reads port p reads at in
-    eqb-true p.init.width m.width (last_two (sig_of c 1 p.clk) (sig_of c 1 p.en) (sig_of c abits p.addr) _ (p.init.width == m.width) read).1
+    let fits : mem_fits c.nets m ≡ true = all_at (mem_fits c.nets) c.mems n m (valid_parts c valid).1 is in
+    let reads : list_all (read_fits c.nets m abits) m.reads ≡ true = (last_two (nat_le m.width widest) (m.init.width == m.size * m.width) _ (list_all (read_fits c.nets m abits) m.reads) (list_all (write_fits c.nets m abits) m.writes) fits).0 in
+    let read : read_fits c.nets m abits p ≡ true = all_at (read_fits c.nets m abits) m.reads port p reads at in
+    eqb-true p.init.width m.width (last_two (sig_of c.nets 1 p.clk) (sig_of c.nets 1 p.en) (sig_of c.nets abits p.addr) _ (p.init.width == m.width) read).1
 
 -- ---- states
 

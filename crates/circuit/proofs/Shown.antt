@@ -45,32 +45,32 @@ module _ (run : Run) (k : ℕ) (s : Standing) (nets : (n : ℕ) → slice_index 
   rows_at n row (Some m) (Some kept) is stored within =
       subst (λ w. slice_index kept.rows row < 2 ^ w) (sym (get_or-replicate m.size row m.width 0 (subst (λ v. row < v) (length-replicate m.size m.width) within))) (rows n row m kept is stored)
 
-  item_below : (kind : ItemKind) (slot : ℕ) → slot < length (item_widths run.circuit kind) → item_number s kind slot < 2 ^ slice_index (item_widths run.circuit kind) slot
+  item_below : (kind : ItemKind) (slot : ℕ) → slot < length (item_widths run.circuit.nets run.circuit.mems kind) → item_number s kind slot < 2 ^ slice_index (item_widths run.circuit.nets run.circuit.mems kind) slot
   item_below (item.Node net lsb_at input output) zero within = nets net
   item_below (item.Node net lsb_at input output) (suc slot) within = absurd (omega (arith, within))
   item_below (item.Memory n) slot within = rows_at n slot (slice_get run.circuit.mems n) (slice_get s.state.mems n) refl refl within
 
   abbrev widths_from : List Item → List ℕ
-  widths_from xs = flat_map (λ (x : Item). item_widths run.circuit x.kind) xs ++ map (λ _. 1) run.circuit.diags
+  widths_from xs = flat_map (λ (x : Item). item_widths run.circuit.nets run.circuit.mems x.kind) xs ++ map (λ _. 1) run.circuit.diags
 
   slots_below : (xs : List Item) (slot : ℕ) → slot_number run k s xs slot < 2 ^ slice_index (widths_from xs) slot
   unfolding slot_number
   slots_below [] slot = diags_below run.circuit.diags slot
   slots_below (x ∷ xs) slot =
-      let first = item_widths run.circuit x.kind in
+      let first = item_widths run.circuit.nets run.circuit.mems x.kind in
       let joined : widths_from (x ∷ xs) ≡ first ++ widths_from xs =
-      ap (λ (ws : List ℕ). ws ++ map (λ _. 1) run.circuit.diags) (flat_map-cons (λ (y : Item). item_widths run.circuit y.kind) x xs)
-      ∙ append_assoc first (flat_map (λ (y : Item). item_widths run.circuit y.kind) xs) (map (λ _. 1) run.circuit.diags) in
-      subst (λ (ws : List ℕ). slot_number run k s (x ∷ xs) slot < 2 ^ slice_index ws slot) (sym joined) (elim (cases_Bool (ltb slot (slots_of run.circuit x.kind))) [
+      ap (λ (ws : List ℕ). ws ++ map (λ _. 1) run.circuit.diags) (flat_map-cons (λ (y : Item). item_widths run.circuit.nets run.circuit.mems y.kind) x xs)
+      ∙ append_assoc first (flat_map (λ (y : Item). item_widths run.circuit.nets run.circuit.mems y.kind) xs) (map (λ _. 1) run.circuit.diags) in
+      subst (λ (ws : List ℕ). slot_number run k s (x ∷ xs) slot < 2 ^ slice_index ws slot) (sym joined) (elim (cases_Bool (ltb slot (slots_of run.circuit.mems x.kind))) [
         | inl here ↦
-            (let within : slot < length first = subst (λ n. slot < n) (sym (item_count run.circuit x.kind)) (ltb-true slot (slots_of run.circuit x.kind) here) in
-            subst (λ n. n < 2 ^ slice_index (first ++ widths_from xs) slot) (sym (cond-true (ltb slot (slots_of run.circuit x.kind)) _ _ here))
+            (let within : slot < length first = subst (λ n. slot < n) (sym (item_count run.circuit.nets run.circuit.mems x.kind)) (ltb-true slot (slots_of run.circuit.mems x.kind) here) in
+            subst (λ n. n < 2 ^ slice_index (first ++ widths_from xs) slot) (sym (cond-true (ltb slot (slots_of run.circuit.mems x.kind)) _ _ here))
             (subst (λ w. item_number s x.kind slot < 2 ^ w) (sym (get_or_append_left first (widths_from xs) 0 slot within)) (item_below x.kind slot within)))
         | inr behind ↦
-            (subst (λ n. n < 2 ^ slice_index (first ++ widths_from xs) slot) (sym (cond-false (ltb slot (slots_of run.circuit x.kind)) _ _ behind))
-            (subst (λ w. slot_number run k s xs (slot - slots_of run.circuit x.kind) < 2 ^ w)
-            (sym (get_or-append_right first (widths_from xs) (slots_of run.circuit x.kind) slot 0 (item_count run.circuit x.kind) (ltb-false slot (slots_of run.circuit x.kind) behind)))
-            (slots_below xs (slot - slots_of run.circuit x.kind))))
+            (subst (λ n. n < 2 ^ slice_index (first ++ widths_from xs) slot) (sym (cond-false (ltb slot (slots_of run.circuit.mems x.kind)) _ _ behind))
+            (subst (λ w. slot_number run k s xs (slot - slots_of run.circuit.mems x.kind) < 2 ^ w)
+            (sym (get_or-append_right first (widths_from xs) (slots_of run.circuit.mems x.kind) slot 0 (item_count run.circuit.nets run.circuit.mems x.kind) (ltb-false slot (slots_of run.circuit.mems x.kind) behind)))
+            (slots_below xs (slot - slots_of run.circuit.mems x.kind))))
       ])
 
 nets_at : (run : Run) (k : ℕ) (s : Standing) → standing_at run k ≡ Some s → s.nets ≡ valuation run.circuit s.state (run.row k).inputs

@@ -5,7 +5,7 @@ use Rattle.std.proofs.lemmas.List.{at_drop_more, at_drop_all}
 use Rattle.std.proofs.lemmas.Grind.{common_steps}
 use Rattle.circuit.specs.Shown.{slots_of}
 use Rattle.circuit.specs.Valid.{numbers_differ, names_differ, names_rise, stands_before, slots_run}
-use Rattle.circuit.specs.declared.netlist.Circuit.{Circuit}
+use Rattle.circuit.specs.declared.memory.Mem.{Mem}
 use Rattle.circuit.specs.declared.item.Item.{Item}
 use Rattle.circuit.specs.declared.item.Scope.{Scope}
 
@@ -66,20 +66,20 @@ rise_none = refl
 
 -- ---- first slots
 
-module _ (c : Circuit) (xs : List Item) (i before : ℕ) where
-  slots_first : (x : Item) → i < length xs → x ≡ get_or xs i x → slots_run c before (drop i xs) ≡ (x.first_slot == before && slots_run c (before + slots_of c x.kind) (drop (i + 1) xs))
+module _ (mems : List Mem) (xs : List Item) (i before : ℕ) where
+  slots_first : (x : Item) → i < length xs → x ≡ get_or xs i x → slots_run mems before (drop i xs) ≡ (x.first_slot == before && slots_run mems (before + slots_of mems x.kind) (drop (i + 1) xs))
   unfolding slots_run
   slots_first x within is =
-      at_drop_more (slots_run c before) xs i x within ∙ ap (λ (y : Item). slots_run c before (y ∷ drop (i + 1) xs)) (sym is)
+      at_drop_more (slots_run mems before) xs i x within ∙ ap (λ (y : Item). slots_run mems before (y ∷ drop (i + 1) xs)) (sym is)
 
-  pub slots_fail : (x : Item) → i < length xs → x ≡ get_or xs i x → x.first_slot == before ≡ false → slots_run c before (drop i xs) ≡ slots_run c 0 xs → false ≡ slots_run c 0 xs
+  pub slots_fail : (x : Item) → i < length xs → x ≡ get_or xs i x → x.first_slot == before ≡ false → slots_run mems before (drop i xs) ≡ slots_run mems 0 xs → false ≡ slots_run mems 0 xs
   slots_fail x within is off kept =
-      sym (sym kept ∙ slots_first x within is ∙ ap (λ (b : Bool). b && slots_run c (before + slots_of c x.kind) (drop (i + 1) xs)) off)
+      sym (sym kept ∙ slots_first x within is ∙ ap (λ (b : Bool). b && slots_run mems (before + slots_of mems x.kind) (drop (i + 1) xs)) off)
 
-  pub slots_pass : (x : Item) → i < length xs → x ≡ get_or xs i x → x.first_slot == before ≡ true → slots_run c before (drop i xs) ≡ slots_run c 0 xs → slots_run c (before + slots_of c x.kind) (drop (i + 1) xs) ≡ slots_run c 0 xs
+  pub slots_pass : (x : Item) → i < length xs → x ≡ get_or xs i x → x.first_slot == before ≡ true → slots_run mems before (drop i xs) ≡ slots_run mems 0 xs → slots_run mems (before + slots_of mems x.kind) (drop (i + 1) xs) ≡ slots_run mems 0 xs
   slots_pass x within is on kept =
-      sym (ap (λ (b : Bool). b && slots_run c (before + slots_of c x.kind) (drop (i + 1) xs)) on) ∙ sym (slots_first x within is) ∙ kept
+      sym (ap (λ (b : Bool). b && slots_run mems (before + slots_of mems x.kind) (drop (i + 1) xs)) on) ∙ sym (slots_first x within is) ∙ kept
 
-  pub slots_all : length xs ≤ i → slots_run c before (drop i xs) ≡ slots_run c 0 xs → true ≡ slots_run c 0 xs
+  pub slots_all : length xs ≤ i → slots_run mems before (drop i xs) ≡ slots_run mems 0 xs → true ≡ slots_run mems 0 xs
   unfolding slots_run
-  slots_all past kept = sym (at_drop_all (slots_run c before) xs i past) ∙ kept
+  slots_all past kept = sym (at_drop_all (slots_run mems before) xs i past) ∙ kept

@@ -5,7 +5,6 @@ use Rattle.sim_base.specs.declared.kinds.Kinds.{Kinds}
 use Rattle.circuit.specs.Signal.{Digits, digits_of_nets, sig_number}
 use Rattle.circuit.specs.State.{Stored}
 use Rattle.circuit.specs.Next.{is_active_at}
-use Rattle.circuit.specs.declared.netlist.Circuit.{Circuit}
 use Rattle.circuit.specs.declared.netlist.Piece.{Piece}
 use Rattle.circuit.specs.declared.memory.Mem.{Mem}
 use Rattle.circuit.specs.declared.item.Item.{Item}
@@ -43,9 +42,9 @@ abbrev pub rows_of : Option Mem → ℕ
 rows_of None = 0
 rows_of (Some m) = m.size
 
-abbrev pub slots_of : Circuit → ItemKind → ℕ
-slots_of c (item.Node net lsb_at input output) = 1
-slots_of c (item.Memory m) = rows_of (slice_get c.mems m)
+abbrev pub slots_of : List Mem → ItemKind → ℕ
+slots_of mems (item.Node net lsb_at input output) = 1
+slots_of mems (item.Memory m) = rows_of (slice_get mems m)
 
 abbrev pub stored_row : Option Stored → ℕ → ℕ
 stored_row None place = 0
@@ -67,7 +66,7 @@ diag_number run k (Some d) = flag (fires_at run k d)
 unfoldable pub slot_number : Run → ℕ → Standing → List Item → ℕ → ℕ
 slot_number run k s [] slot = diag_number run k (slice_get run.circuit.diags slot)
 slot_number run k s (i ∷ is) slot =
-    let slots = slots_of run.circuit i.kind in
+    let slots = slots_of run.circuit.mems i.kind in
     if nat_lt slot slots then item_number s i.kind slot else slot_number run k s is (slot - slots)
 
 abbrev pub shown_in : Run → ℕ → Option Standing → ℕ → ℕ

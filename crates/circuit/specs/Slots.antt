@@ -16,10 +16,10 @@ row_widths None = []
 row_widths (Some m) = replicate m.size m.width
 
 -- the slot of a node has the width of its net, each slot of a memory that of a row
-abbrev pub item_widths : Circuit → ItemKind → List ℕ
-item_widths c (item.Node net lsb_at input output) = net_width (slice_get c.nets net) ∷ []
-item_widths c (item.Memory m) = row_widths (slice_get c.mems m)
+abbrev pub item_widths : List Net → List Mem → ItemKind → List ℕ
+item_widths nets mems (item.Node net lsb_at input output) = net_width (slice_get nets net) ∷ []
+item_widths nets mems (item.Memory m) = row_widths (slice_get mems m)
 
 -- the widths of all slots: those of the items come first, and then one bit for each diagnostic
 abbrev pub slot_widths : Circuit → List ℕ
-slot_widths c = flat_map (λ i. item_widths c i.kind) c.items ++ map (λ _. 1) c.diags
+slot_widths c = flat_map (λ i. item_widths c.nets c.mems i.kind) c.items ++ map (λ _. 1) c.diags

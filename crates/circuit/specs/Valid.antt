@@ -6,6 +6,7 @@ use Rattle.std.specs.Ordering.{nat_cmp, is_lt}
 use Rattle.std.specs.Str.{is_utf8}
 use Rattle.circuit.specs.Signal.{sig_width}
 use Rattle.circuit.specs.Shown.{slots_of}
+use Rattle.circuit.specs.Valuation.{bits_of}
 use Rattle.circuit.specs.declared.netlist.Circuit.{Circuit}
 use Rattle.circuit.specs.declared.netlist.Net.{Net}
 use Rattle.circuit.specs.declared.netlist.Drive.{Drive}
@@ -50,24 +51,35 @@ reaches end None = false
 reaches end (Some x) = nat_le end x.width
 
 -- a net is there, and has so many bits at least
-abbrev pub net_holds : Circuit → ℕ → ℕ → Bool
-net_holds c net end = reaches end (slice_get c.nets net)
+abbrev pub net_holds : List Net → ℕ → ℕ → Bool
+net_holds nets net end = reaches end (slice_get nets net)
 
-abbrev pub piece_fits : Circuit → Piece → Bool
-piece_fits c (piece.Const v) = true
-piece_fits c (piece.Part net at width) = net_holds c net (at + width)
+abbrev pub piece_fits : List Net → Piece → Bool
+piece_fits nets (piece.Const v) = true
+piece_fits nets (piece.Part net at width) = net_holds nets net (at + width)
 
 -- each part of a signal lies inside its net
-abbrev pub sig_fits : Circuit → List Piece → Bool
-sig_fits c ps = list_all (piece_fits c) ps && nat_le (sig_width ps) widest
+abbrev pub sig_fits : List Net → List Piece → Bool
+sig_fits nets ps = list_all (piece_fits nets) ps && nat_le (sig_width ps) widest
 
 -- the same, and it has so many bits
-abbrev pub sig_of : Circuit → ℕ → List Piece → Bool
-sig_of c width ps = sig_fits c ps && sig_width ps == width
+abbrev pub sig_of : List Net → ℕ → List Piece → Bool
+sig_of nets width ps = sig_fits nets ps && sig_width ps == width
 
-abbrev pub input_holds : Circuit → ℕ → Option ℕ → Bool
-input_holds c end None = false
-input_holds c end (Some net) = net_holds c net end
+-- the lists that a drive names
+pub record Drivers : Type 0 where
+  pub nets : List Net
+  pub inputs : List ℕ
+  pub cells : List Cell
+  pub regs : List Reg
+  pub mems : List Mem
+
+abbrev pub drivers_of : Circuit → Drivers
+drivers_of c = record { nets = c.nets; inputs = c.inputs; cells = c.cells; regs = c.regs; mems = c.mems }
+
+abbrev pub input_holds : List Net → ℕ → Option ℕ → Bool
+input_holds nets end None = false
+input_holds nets end (Some net) = net_holds nets net end
 
 abbrev pub cell_holds : ℕ → Option Cell → Bool
 cell_holds end None = false
@@ -82,17 +94,17 @@ port_holds n end None = false
 port_holds n end (Some m) = nat_lt n (length m.reads) && nat_le end m.width
 
 -- what drives is there, and has so many bits from the first that is taken on
-abbrev pub driver_fits : Circuit → ℕ → By → Bool
-driver_fits c width (by.Const v) = v.width == width
-driver_fits c width (by.Input n at) = input_holds c (at + width) (slice_get c.inputs n)
-driver_fits c width (by.Wire n at) = net_holds c n (at + width)
-driver_fits c width (by.Cell n at) = cell_holds (at + width) (slice_get c.cells n)
-driver_fits c width (by.Reg n at) = register_holds (at + width) (slice_get c.regs n)
-driver_fits c width (by.Read m n at) = port_holds n (at + width) (slice_get c.mems m)
+abbrev pub driver_fits : Drivers → ℕ → By → Bool
+driver_fits from width (by.Const v) = v.width == width
+driver_fits from width (by.Input n at) = input_holds from.nets (at + width) (slice_get from.inputs n)
+driver_fits from width (by.Wire n at) = net_holds from.nets n (at + width)
+driver_fits from width (by.Cell n at) = cell_holds (at + width) (slice_get from.cells n)
+driver_fits from width (by.Reg n at) = register_holds (at + width) (slice_get from.regs n)
+driver_fits from width (by.Read m n at) = port_holds n (at + width) (slice_get from.mems m)
 
 -- a drive lies inside its net
-abbrev pub drive_fits : Circuit → Drive → Bool
-drive_fits c d = net_holds c d.net (d.at + d.width) && driver_fits c d.width d.by
+abbrev pub drive_fits : Drivers → Drive → Bool
+drive_fits from d = net_holds from.nets d.net (d.at + d.width) && driver_fits from d.width d.by
 
 -- ---- cells
 
@@ -163,8 +175,8 @@ widths_fit op.Bweqx w = w.a == w.width && (w.b == w.width && w.s == 0)
 widths_fit op.Slice w = nat_le (w.offset + w.width) w.a && is_unary w
 widths_fit op.Concat w = w.width == w.a + w.b && w.s == 0
 
-abbrev pub cell_fits : Circuit → Cell → Bool
-cell_fits c x = sig_fits c x.a && (sig_fits c x.b && (sig_fits c x.s && (nat_le x.width widest && widths_fit x.op (widths_of x))))
+abbrev pub cell_fits : List Net → Cell → Bool
+cell_fits nets x = sig_fits nets x.a && (sig_fits nets x.b && (sig_fits nets x.s && (nat_le x.width widest && widths_fit x.op (widths_of x))))
 
 -- ---- registers and latches
 
@@ -186,47 +198,47 @@ flip_flop = record { clk = true; d = true; en = false; load = false; reset = fal
 abbrev pub latch : Ports
 latch = record { clk = false; d = true; en = true; load = false; reset = false; bits = false }
 
-abbrev pub ports_of : RegKind → Ports
-ports_of kind.Dff = flip_flop
-ports_of kind.Dffe = record flip_flop { en = true }
-ports_of kind.Adff = record flip_flop { reset = true }
-ports_of kind.Adffe = record flip_flop { reset = true; en = true }
-ports_of kind.Sdff = record flip_flop { reset = true }
-ports_of kind.Sdffe = record flip_flop { reset = true; en = true }
-ports_of kind.Sdffce = record flip_flop { reset = true; en = true }
-ports_of kind.Aldff = record flip_flop { load = true }
-ports_of kind.Aldffe = record flip_flop { load = true; en = true }
-ports_of kind.Dffsr = record flip_flop { bits = true }
-ports_of kind.Dffsre = record flip_flop { bits = true; en = true }
-ports_of kind.Sr = record flip_flop { clk = false; d = false; bits = true }
-ports_of kind.Dlatch = latch
-ports_of kind.Adlatch = record latch { reset = true }
-ports_of kind.Dlatchsr = record latch { bits = true }
+abbrev pub ports_of_kind : RegKind → Ports
+ports_of_kind kind.Dff = flip_flop
+ports_of_kind kind.Dffe = record flip_flop { en = true }
+ports_of_kind kind.Adff = record flip_flop { reset = true }
+ports_of_kind kind.Adffe = record flip_flop { reset = true; en = true }
+ports_of_kind kind.Sdff = record flip_flop { reset = true }
+ports_of_kind kind.Sdffe = record flip_flop { reset = true; en = true }
+ports_of_kind kind.Sdffce = record flip_flop { reset = true; en = true }
+ports_of_kind kind.Aldff = record flip_flop { load = true }
+ports_of_kind kind.Aldffe = record flip_flop { load = true; en = true }
+ports_of_kind kind.Dffsr = record flip_flop { bits = true }
+ports_of_kind kind.Dffsre = record flip_flop { bits = true; en = true }
+ports_of_kind kind.Sr = record flip_flop { clk = false; d = false; bits = true }
+ports_of_kind kind.Dlatch = latch
+ports_of_kind kind.Adlatch = record latch { reset = true }
+ports_of_kind kind.Dlatchsr = record latch { bits = true }
 
 abbrev pub width_where : Bool → ℕ → ℕ
 width_where there width = if there then width else 0
 
-abbrev pub register_has : Circuit → Ports → Reg → Bool
-register_has c p r =
-    sig_of c (width_where p.clk 1) r.clk
-    && (sig_of c (width_where p.d r.width) r.d
-    && (sig_of c (width_where p.en 1) r.en
-    && (sig_of c (width_where p.bits r.width) r.set
-    && (sig_of c (if p.bits then r.width else width_where p.reset 1) r.clr
-    && (sig_of c (width_where p.load 1) r.load
-    && sig_of c (width_where p.load r.width) r.ad)))))
+abbrev pub register_has : List Net → Ports → Reg → Bool
+register_has nets p r =
+    sig_of nets (width_where p.clk 1) r.clk
+    && (sig_of nets (width_where p.d r.width) r.d
+    && (sig_of nets (width_where p.en 1) r.en
+    && (sig_of nets (width_where p.bits r.width) r.set
+    && (sig_of nets (if p.bits then r.width else width_where p.reset 1) r.clr
+    && (sig_of nets (width_where p.load 1) r.load
+    && sig_of nets (width_where p.load r.width) r.ad)))))
 
-abbrev pub register_fits : Circuit → Reg → Bool
-register_fits c r = nat_le r.width widest && (register_has c (ports_of r.kind) r && (r.value.width == r.width && r.init.width == r.width))
+abbrev pub register_fits : List Net → Reg → Bool
+register_fits nets r = nat_le r.width widest && (register_has nets (ports_of_kind r.kind) r && (r.value.width == r.width && r.init.width == r.width))
 
 -- ---- memories
 
-abbrev pub read_fits : Circuit → Mem → ℕ → ReadPort → Bool
-read_fits c m abits p =
-    sig_of c 1 p.clk && (sig_of c 1 p.en && (sig_of c abits p.addr && (length p.see == length m.writes && p.init.width == m.width)))
+abbrev pub read_fits : List Net → Mem → ℕ → ReadPort → Bool
+read_fits nets m abits p =
+    sig_of nets 1 p.clk && (sig_of nets 1 p.en && (sig_of nets abits p.addr && (length p.see == length m.writes && p.init.width == m.width)))
 
-abbrev pub write_fits : Circuit → Mem → ℕ → WritePort → Bool
-write_fits c m abits p = sig_of c 1 p.clk && (sig_of c m.width p.en && (sig_of c abits p.addr && sig_of c m.width p.word))
+abbrev pub write_fits : List Net → Mem → ℕ → WritePort → Bool
+write_fits nets m abits p = sig_of nets 1 p.clk && (sig_of nets m.width p.en && (sig_of nets abits p.addr && sig_of nets m.width p.word))
 
 -- the width of a memory's addresses, which is that of the first port that has one
 abbrev pub address_width : List ReadPort → List WritePort → ℕ
@@ -234,32 +246,32 @@ address_width (p ∷ reads) writes = sig_width p.addr
 address_width [] (p ∷ writes) = sig_width p.addr
 address_width [] [] = 0
 
-abbrev pub mem_fits : Circuit → Mem → Bool
-mem_fits c m =
+abbrev pub mem_fits : List Net → Mem → Bool
+mem_fits nets m =
     nat_le m.width widest
     && (m.init.width == m.size * m.width
     && (is_countable (length m.reads)
-    && (list_all (read_fits c m (address_width m.reads m.writes)) m.reads
-    && list_all (write_fits c m (address_width m.reads m.writes)) m.writes)))
+    && (list_all (read_fits nets m (address_width m.reads m.writes)) m.reads
+    && list_all (write_fits nets m (address_width m.reads m.writes)) m.writes)))
 
 -- ---- items, scopes and inputs
 
-abbrev pub kind_fits : Circuit → ItemKind → Bool
-kind_fits c (item.Node net lsb_at input output) = nat_lt net (length c.nets)
-kind_fits c (item.Memory m) = nat_lt m (length c.mems)
+abbrev pub kind_fits : List Net → List Mem → ItemKind → Bool
+kind_fits nets mems (item.Node net lsb_at input output) = nat_lt net (length nets)
+kind_fits nets mems (item.Memory m) = nat_lt m (length mems)
 
 abbrev pub text_fits : Option (List ℕ) → Bool
 text_fits None = true
 text_fits (Some text) = is_utf8 text
 
-abbrev pub item_fits : Circuit → Item → Bool
-item_fits c i =
-    nat_lt i.scope (length c.scopes) && (kind_fits c i.kind && (is_countable (length i.name) && (is_utf8 i.name && text_fits i.src)))
+abbrev pub item_fits : List Net → List Mem → List Scope → Item → Bool
+item_fits nets mems scopes i =
+    nat_lt i.scope (length scopes) && (kind_fits nets mems i.kind && (is_countable (length i.name) && (is_utf8 i.name && text_fits i.src)))
 
 -- the first slots are the sums of the slots before them
-unfoldable pub slots_run : Circuit → ℕ → List Item → Bool
-slots_run c before [] = true
-slots_run c before (i ∷ is) = i.first_slot == before && slots_run c (before + slots_of c i.kind) is
+unfoldable pub slots_run : List Mem → ℕ → List Item → Bool
+slots_run mems before [] = true
+slots_run mems before (i ∷ is) = i.first_slot == before && slots_run mems (before + slots_of mems i.kind) is
 
 abbrev pub is_before : List ℕ → List ℕ → Bool
 is_before x y = is_lt (slice_cmp nat_cmp x y)
@@ -294,44 +306,50 @@ unfoldable pub numbers_differ : List ℕ → Bool
 numbers_differ [] = true
 numbers_differ (n ∷ ns) = not (list_any (λ other. other == n) ns) && numbers_differ ns
 
-abbrev pub inputs_fit : Circuit → Bool
-inputs_fit c = list_all (λ net. nat_lt net (length c.nets) && is_shown_once c.items net) c.inputs && numbers_differ c.inputs
+abbrev pub inputs_fit : List Net → List Item → List ℕ → Bool
+inputs_fit nets items inputs = list_all (λ net. nat_lt net (length nets) && is_shown_once items net) inputs && numbers_differ inputs
 
 -- ---- diagnostics
 
-abbrev pub trigger_fits : Circuit → Option Trigger → Bool
-trigger_fits c None = true
-trigger_fits c (Some t) = sig_fits c t.on && length t.rising == sig_width t.on
+abbrev pub trigger_fits : List Net → Option Trigger → Bool
+trigger_fits nets None = true
+trigger_fits nets (Some t) = sig_fits nets t.on && length t.rising == sig_width t.on
 
-abbrev pub diag_fits : Circuit → Diag → Bool
-diag_fits c d =
-    sig_of c 1 d.a && (sig_of c 1 d.en && (trigger_fits c d.trigger && (is_countable (length d.text) && (is_utf8 d.text && text_fits d.src))))
+abbrev pub diag_fits : List Net → Diag → Bool
+diag_fits nets d =
+    sig_of nets 1 d.a && (sig_of nets 1 d.en && (trigger_fits nets d.trigger && (is_countable (length d.text) && (is_utf8 d.text && text_fits d.src))))
 
 -- ---- the whole
 
 -- how many slots there are: those of the items, and one for each diagnostic
 abbrev pub slot_count : Circuit → ℕ
-slot_count c = sum_by (λ i. slots_of c i.kind) c.items + length c.diags
+slot_count c = sum_by (λ i. slots_of c.mems i.kind) c.items + length c.diags
 
+-- how many nodes an order can have: the cells, and the read ports of the memories
+abbrev pub node_count : Circuit → ℕ
+node_count c = length c.cells + sum_by (λ m. length m.reads) c.mems
+
+-- slots, nodes and the bits of all nets can be numbered too
 abbrev pub counts_fit : Circuit → Bool
 counts_fit c =
     is_countable (length c.nets) && (is_countable (length c.cells) && (is_countable (length c.regs) && (is_countable (length c.mems)
-    && (is_countable (length c.inputs) && (is_countable (length c.scopes) && is_countable (slot_count c))))))
+    && (is_countable (length c.inputs) && (is_countable (length c.scopes)
+    && (is_countable (slot_count c) && (is_countable (node_count c) && is_countable (bits_of c))))))))
 
 -- a circuit that the other crates take
 abbrev pub is_valid : Circuit → Bool
 is_valid c =
     counts_fit c
     && (list_all (λ x. nat_le x.width widest) c.nets
-    && (list_all (drive_fits c) c.drives
-    && (list_all (cell_fits c) c.cells
-    && (list_all (register_fits c) c.regs
-    && (list_all (mem_fits c) c.mems
-    && (inputs_fit c
-    && (list_all (item_fits c) c.items
-    && (slots_run c 0 c.items
+    && (list_all (drive_fits (drivers_of c)) c.drives
+    && (list_all (cell_fits c.nets) c.cells
+    && (list_all (register_fits c.nets) c.regs
+    && (list_all (mem_fits c.nets) c.mems
+    && (inputs_fit c.nets c.items c.inputs
+    && (list_all (item_fits c.nets c.mems c.scopes) c.items
+    && (slots_run c.mems 0 c.items
     && (names_rise c.items
     && (list_all scope_fits c.scopes
     && (names_differ c.scopes
     && (list_any (λ s. length s.name == 0) c.scopes
-    && list_all (diag_fits c) c.diags))))))))))))
+    && list_all (diag_fits c.nets) c.diags))))))))))))

@@ -25,7 +25,7 @@ impl Circuit {
 }
 
 fn push_items(circuit: &Circuit, items: &[Item], widths: &mut Vec<u32>) -> Result<(), NoMemory>
-    ensures { OnOk result (widths.new.items ≡ widths.old.items ++ flat_map (λ i. item_widths circuit.now i.kind) items.now) }
+    ensures { OnOk result (widths.new.items ≡ widths.old.items ++ flat_map (λ i. item_widths circuit.now.nets circuit.now.mems i.kind) items.now) }
 {
     for item in items {
         push_item(circuit, item.kind, widths)?;
@@ -34,7 +34,7 @@ fn push_items(circuit: &Circuit, items: &[Item], widths: &mut Vec<u32>) -> Resul
 }
 
 fn push_item(circuit: &Circuit, kind: ItemKind, widths: &mut Vec<u32>) -> Result<(), NoMemory>
-    ensures { OnOk result (widths.new.items ≡ widths.old.items ++ item_widths circuit.now kind) }
+    ensures { OnOk result (widths.new.items ≡ widths.old.items ++ item_widths circuit.now.nets circuit.now.mems kind) }
 {
     match kind {
         ItemKind::Node { net, .. } => {

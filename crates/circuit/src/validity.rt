@@ -1,9 +1,10 @@
 //! Whether a circuit is one that the other crates take.
 ghost use Rattle.std.specs.Prelude.{◌≡◌, nat_le};
 ghost use Rattle.std.specs.List.{list_all};
-ghost use Rattle.circuit.specs.Valid.{cell_fits, counts_fit, diag_fits, drive_fits, is_countable, is_valid, item_fits, mem_fits, register_fits, scope_fits, slot_count, widest};
+ghost use Rattle.circuit.specs.Valid.{cell_fits, diag_fits, drive_fits, drivers_of, is_valid, item_fits, mem_fits, register_fits, scope_fits, widest};
 
 mod cells;
+mod counts;
 mod diagnostics;
 mod items;
 mod memories;
@@ -17,12 +18,10 @@ use crate::memory::Mem;
 use crate::netlist::{Circuit, Drive, Net};
 use crate::register::Reg;
 use cells::cell_fits;
+use counts::counts_fit;
 use diagnostics::diag_fits;
-use items::{
-    inputs_fit, item_fits, names_differ, names_rise, scope_fits, slots_of_items, slots_run,
-    some_top,
-};
-use memories::{is_countable, mem_fits};
+use items::{inputs_fit, item_fits, names_differ, names_rise, scope_fits, slots_run, some_top};
+use memories::mem_fits;
 use registers::register_fits;
 use signals::{WIDEST, drive_fits};
 
@@ -36,45 +35,27 @@ impl Circuit {
     pub fn validate(&self) -> bool
         ensures { result ≡ is_valid self.now }
     {
+        let nets = self.nets.as_slice();
         let items = self.items.as_slice();
         let scopes = self.scopes.as_slice();
         counts_fit(self)
-            && (nets_fit(self.nets.as_slice())
+            && (nets_fit(nets)
                 && (drives_fit(self, self.drives.as_slice())
-                    && (cells_fit(self, self.cells.as_slice())
-                        && (registers_fit(self, self.regs.as_slice())
-                            && (mems_fit(self, self.mems.as_slice())
+                    && (cells_fit(nets, self.cells.as_slice())
+                        && (registers_fit(nets, self.regs.as_slice())
+                            && (mems_fit(nets, self.mems.as_slice())
                                 && (inputs_fit(self)
                                     && (items_fit(self, items)
-                                        && (slots_run(self, items)
+                                        && (slots_run(self.mems.as_slice(), items)
                                             && (names_rise(items)
                                                 && (scopes_fit(scopes)
                                                     && (names_differ(scopes)
                                                         && (some_top(scopes)
                                                             && diags_fit(
-                                                                self,
+                                                                nets,
                                                                 self.diags.as_slice(),
                                                             )))))))))))))
     }
-}
-
-/// Whether the slots are fewer than 4,294,967,296.
-fn slots_fit(circuit: &Circuit) -> bool
-    ensures { result ≡ is_countable (slot_count circuit.now) }
-{
-    let slots = slots_of_items(circuit);
-    is_countable(circuit.diags.len()) && slots + (circuit.diags.len() as u64) < 1 << 32
-}
-
-fn counts_fit(circuit: &Circuit) -> bool
-    ensures { result ≡ counts_fit circuit.now }
-{
-    is_countable(circuit.nets.len())
-        && (is_countable(circuit.cells.len())
-            && (is_countable(circuit.regs.len())
-                && (is_countable(circuit.mems.len())
-                    && (is_countable(circuit.inputs.len())
-                        && (is_countable(circuit.scopes.len()) && slots_fit(circuit))))))
 }
 
 fn nets_fit(nets: &[Net]) -> bool
@@ -84,31 +65,31 @@ fn nets_fit(nets: &[Net]) -> bool
 }
 
 fn drives_fit(circuit: &Circuit, drives: &[Drive]) -> bool
-    ensures { result ≡ list_all (drive_fits circuit.now) drives.now }
+    ensures { result ≡ list_all (drive_fits (drivers_of circuit.now)) drives.now }
 {
     drives.iter().all(|drive| drive_fits(circuit, drive))
 }
 
-fn cells_fit(circuit: &Circuit, cells: &[Cell]) -> bool
-    ensures { result ≡ list_all (cell_fits circuit.now) cells.now }
+fn cells_fit(nets: &[Net], cells: &[Cell]) -> bool
+    ensures { result ≡ list_all (cell_fits nets.now) cells.now }
 {
-    cells.iter().all(|cell| cell_fits(circuit, cell))
+    cells.iter().all(|cell| cell_fits(nets, cell))
 }
 
-fn registers_fit(circuit: &Circuit, regs: &[Reg]) -> bool
-    ensures { result ≡ list_all (register_fits circuit.now) regs.now }
+fn registers_fit(nets: &[Net], regs: &[Reg]) -> bool
+    ensures { result ≡ list_all (register_fits nets.now) regs.now }
 {
-    regs.iter().all(|reg| register_fits(circuit, reg))
+    regs.iter().all(|reg| register_fits(nets, reg))
 }
 
-fn mems_fit(circuit: &Circuit, mems: &[Mem]) -> bool
-    ensures { result ≡ list_all (mem_fits circuit.now) mems.now }
+fn mems_fit(nets: &[Net], mems: &[Mem]) -> bool
+    ensures { result ≡ list_all (mem_fits nets.now) mems.now }
 {
-    mems.iter().all(|mem| mem_fits(circuit, mem))
+    mems.iter().all(|mem| mem_fits(nets, mem))
 }
 
 fn items_fit(circuit: &Circuit, items: &[Item]) -> bool
-    ensures { result ≡ list_all (item_fits circuit.now) items.now }
+    ensures { result ≡ list_all (item_fits circuit.now.nets circuit.now.mems circuit.now.scopes) items.now }
 {
     items.iter().all(|item| item_fits(circuit, item))
 }
@@ -119,8 +100,8 @@ fn scopes_fit(scopes: &[Scope]) -> bool
     scopes.iter().all(|scope| scope_fits(scope))
 }
 
-fn diags_fit(circuit: &Circuit, diags: &[Diag]) -> bool
-    ensures { result ≡ list_all (diag_fits circuit.now) diags.now }
+fn diags_fit(nets: &[Net], diags: &[Diag]) -> bool
+    ensures { result ≡ list_all (diag_fits nets.now) diags.now }
 {
-    diags.iter().all(|diag| diag_fits(circuit, diag))
+    diags.iter().all(|diag| diag_fits(nets, diag))
 }

@@ -13,7 +13,7 @@ use Rattle.flat_design.specs.Flat.{IsFlat, IsNodeOf}
 use Rattle.sim_base.specs.TimeText.{time_text}
 use Rattle.cxxsim.specs.TraceText.{item_value_text, item_width, sample_line, value_text, values_text}
 
-slots_one : (c : Circuit) (k : ItemKind) → IsNodeOf c k → slots_of c k ≡ 1
+slots_one : (c : Circuit) (k : ItemKind) → IsNodeOf c k → slots_of c.mems k ≡ 1
 slots_one c (item.Node net lsb_at input output) h = refl
 slots_one c (item.Memory m) h = absurd h
 

@@ -4,7 +4,7 @@ use Rattle.std.specs.Prelude.{slice_get, find}
 use Rattle.std.proofs.lemmas.Bool.{cases_Bool, cond-true, cond-false}
 use Rattle.circuit.specs.Signal.{Reads}
 use Rattle.circuit.specs.Valuation.{covers, drive_of}
-use Rattle.circuit.specs.Valid.{drive_fits, is_valid}
+use Rattle.circuit.specs.Valid.{drive_fits, drivers_of, is_valid}
 use Rattle.circuit.specs.declared.netlist.Circuit.{Circuit}
 use Rattle.circuit.specs.declared.netlist.Drive.{Drive}
 use Rattle.circuit.specs.declared.netlist.Net.{Net}
@@ -186,7 +186,7 @@ module _ (c : Circuit) (valid : is_valid c ≡ true) where
   no_need : (w : ℕ) → Needs (nothing ∷ []) w → ⊥
   no_need w n = let o = needs_one nothing w n in let a : 0 ≤ w = o.0 in let b : w < 0 + 0 = o.1 in omega (arith, b)
 
-  by_via : (d : Drive) → drive_fits c d ≡ true → (b : By) → d.by ≡ b → (i : ℕ) → i < d.width → (w : ℕ) → Needs (by_span c b i ∷ []) w → TakesVia b i w
+  by_via : (d : Drive) → drive_fits (drivers_of c) d ≡ true → (b : By) → d.by ≡ b → (i : ℕ) → i < d.width → (w : ℕ) → Needs (by_span c b i ∷ []) w → TakesVia b i w
   by_via d fits (by.Const v) is i lt w n = absurd (no_need w n)
   by_via d fits (by.Input m at) is i lt w n = absurd (no_need w n)
   by_via d fits (by.Wire m at) is i lt w n =
@@ -225,7 +225,7 @@ module _ (c : Circuit) (valid : is_valid c ≡ true) where
   abbrev Back : Bit → Bit → Type 0
   Back x y = Needs (bit_span c x ∷ []) (bit_number c.nets y) ⊎ ((n : Node) × IsPart c n × Needs (bit_span c x ∷ []) (bit_count c.nets + part_place c n) × NodeReads c n y.0 y.1)
 
-  by_back : (d : Drive) → drive_fits c d ≡ true → (b : By) → d.by ≡ b → (i : ℕ) → i < d.width → (y : Bit) → TakesBit c b i y.0 y.1
+  by_back : (d : Drive) → drive_fits (drivers_of c) d ≡ true → (b : By) → d.by ≡ b → (i : ℕ) → i < d.width → (y : Bit) → TakesBit c b i y.0 y.1
       → IsBit c.nets y × (Needs (by_span c b i ∷ []) (bit_number c.nets y) ⊎ ((n : Node) × IsPart c n × Needs (by_span c b i ∷ []) (bit_count c.nets + part_place c n) × NodeReads c n y.0 y.1))
   by_back d fits (by.Const v) is i lt y t = absurd t
   by_back d fits (by.Input m at) is i lt y t = absurd t

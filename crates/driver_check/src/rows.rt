@@ -1,7 +1,7 @@
 //! What each bit and each node of a circuit needs.
 ghost use Rattle.std.specs.Prelude.{◌≡◌, ◌++◌, ℕ, ◌+◌, ◌<◌, length, map, true, IfOk, OnOk, slice_get, Some};
 ghost use Rattle.std.specs.List.{list_all};
-ghost use Rattle.circuit.specs.Valid.{cell_fits, drive_fits, is_valid, piece_fits, sig_fits};
+ghost use Rattle.circuit.specs.Valid.{cell_fits, drive_fits, drivers_of, is_valid, piece_fits, sig_fits};
 ghost use Rattle.driver_check.specs.Depends.{Bit};
 ghost use Rattle.driver_check.specs.Numbers.{IsBit, IsNumbering, bit_number};
 ghost use Rattle.driver_check.specs.Owners.{AreOwners};
@@ -29,7 +29,7 @@ fn drive_span(
     requires valid { is_valid circuit.now ≡ true }
     requires numbers { IsNumbering circuit.now.nets numbering.now.firsts.items numbering.now.bits }
     requires parts { AreParts circuit.now parts.now.nodes.items parts.now.ports.items }
-    requires fits { drive_fits circuit.now drive.now ≡ true }
+    requires fits { drive_fits (drivers_of circuit.now) drive.now ≡ true }
     requires offset { offset < drive.now.width }
     ensures { result ≡ by_span circuit.now drive.now.by offset }
 {
@@ -107,7 +107,7 @@ fn push_piece(
 ) -> Result<(), NoMemory>
     requires valid { is_valid circuit.now ≡ true }
     requires numbers { IsNumbering circuit.now.nets numbering.now.firsts.items numbering.now.bits }
-    requires fits { piece_fits circuit.now piece.now ≡ true }
+    requires fits { piece_fits circuit.now.nets piece.now ≡ true }
     ensures { OnOk result (spans.new ≡ spans.old ++ piece_spans circuit.now.nets piece.now) }
 {
     if let Piece::Part { net, at, width } = piece {
@@ -127,7 +127,7 @@ fn push_signal(
 ) -> Result<(), NoMemory>
     requires valid { is_valid circuit.now ≡ true }
     requires numbers { IsNumbering circuit.now.nets numbering.now.firsts.items numbering.now.bits }
-    requires fits { list_all (piece_fits circuit.now) pieces.now ≡ true }
+    requires fits { list_all (piece_fits circuit.now.nets) pieces.now ≡ true }
     ensures { OnOk result (spans.new ≡ spans.old ++ sig_spans circuit.now.nets pieces.now) }
 {
     for piece in pieces {
@@ -145,7 +145,7 @@ fn cell_row(
 ) -> Result<Items<Span>, NoMemory>
     requires valid { is_valid circuit.now ≡ true }
     requires numbers { IsNumbering circuit.now.nets numbering.now.firsts.items numbering.now.bits }
-    requires fits { cell_fits circuit.now cell.now ≡ true }
+    requires fits { cell_fits circuit.now.nets cell.now ≡ true }
     ensures { IfOk result (λ row. row ≡ cell_spans circuit.now.nets (Some cell.now)) }
 {
     let mut row = Items::new(alloc);
@@ -164,7 +164,7 @@ fn port_row(
 ) -> Result<Items<Span>, NoMemory>
     requires valid { is_valid circuit.now ≡ true }
     requires numbers { IsNumbering circuit.now.nets numbering.now.firsts.items numbering.now.bits }
-    requires fits { sig_fits circuit.now port.now.addr ≡ true }
+    requires fits { sig_fits circuit.now.nets port.now.addr ≡ true }
     ensures { IfOk result (λ row. row ≡ port_spans circuit.now.nets (Some port.now)) }
 {
     let mut row = Items::new(alloc);

@@ -11,7 +11,7 @@ use Rattle.circuit.specs.Signal.{Digits, sig_number}
 use Rattle.circuit.specs.State.{addressed_row}
 use Rattle.circuit.specs.declared.memory.ReadPort.{ReadPort}
 use Rattle.memory_cells.specs.Rows.{RowValues}
-use Rattle.circuit.specs.Valid.{cell_holds, driver_fits, port_holds}
+use Rattle.circuit.specs.Valid.{cell_holds, driver_fits, drivers_of, port_holds}
 use Rattle.circuit.specs.declared.netlist.Circuit.{Circuit}
 use Rattle.circuit.specs.declared.netlist.Net.{Net}
 use Rattle.circuit.specs.declared.netlist.Drive.{Drive}
@@ -85,7 +85,7 @@ cell_listed c roots qs sources n w x places same_roots same_places are from at e
     listed j k p =
         let h = (from.cells n (within c.cells n x at)).right j k p in
         let r : Drive = h.0 in
-        let fits : driver_fits c r.width (by.Cell n h.2.0) ≡ true = subst (λ (b : By). driver_fits c r.width b ≡ true) h.2.1 (root_fits c roots are k r h.1) in
+        let fits : driver_fits (drivers_of c) r.width (by.Cell n h.2.0) ≡ true = subst (λ (b : By). driver_fits (drivers_of c) r.width b ≡ true) h.2.1 (root_fits c roots are k r h.1) in
         let held : cell_holds (h.2.0 + r.width) (Some x) ≡ true = subst (λ o. cell_holds (h.2.0 + r.width) o ≡ true) at fits in
         let o : offset_of r.by ≡ h.2.0 = ap offset_of h.2.1 in
         let le : h.2.0 + r.width ≤ x.width = leb-true (h.2.0 + r.width) x.width held in
@@ -100,7 +100,7 @@ read_listed c roots qs sources m n w x places same_roots same_places are from at
     listed j k p =
         let h = (from.reads m n x at lt).right j k p in
         let r : Drive = h.0 in
-        let fits : driver_fits c r.width (by.Read m n h.2.0) ≡ true = subst (λ (b : By). driver_fits c r.width b ≡ true) h.2.1 (root_fits c roots are k r h.1) in
+        let fits : driver_fits (drivers_of c) r.width (by.Read m n h.2.0) ≡ true = subst (λ (b : By). driver_fits (drivers_of c) r.width b ≡ true) h.2.1 (root_fits c roots are k r h.1) in
         let held : port_holds n (h.2.0 + r.width) (Some x) ≡ true = subst (λ o. port_holds n (h.2.0 + r.width) o ≡ true) at fits in
         let o : offset_of r.by ≡ h.2.0 = ap offset_of h.2.1 in
         let le : h.2.0 + r.width ≤ x.width = leb-true (h.2.0 + r.width) x.width (and_parts (nat_lt n (length x.reads)) (nat_le (h.2.0 + r.width) x.width) held).1 in

@@ -4,7 +4,7 @@ use Rattle.std.specs.Prelude.{option_and_then, slice_get, slice_index}
 use Rattle.std.proofs.lemmas.Bool.{and_parts, leb-true, ltb-true}
 use Rattle.std.proofs.lemmas.Bool.Decides.{nat_tests}
 use Rattle.sim_base.specs.BitValue.{BitValue}
-use Rattle.circuit.specs.Valid.{driver_fits, input_holds, port_holds, reaches, register_holds}
+use Rattle.circuit.specs.Valid.{driver_fits, drivers_of, input_holds, port_holds, reaches, register_holds}
 use Rattle.circuit.specs.declared.netlist.Circuit.{Circuit}
 use Rattle.circuit.specs.declared.netlist.Net.{Net}
 use Rattle.circuit.specs.declared.netlist.Drive.{Drive}
@@ -46,7 +46,7 @@ outs_at c store m x s at = go store.reads c.mems m s.reads at
         go os ms k g a
 
 module _ (c : Circuit) (inputs : List BitValue) (store : Store) (are : AreInputsOf c inputs) (s : IsStoreOf c store) where
-  takes_input : (n at width : ℕ) (o : Option ℕ) → slice_get c.inputs n ≡ o → input_holds c (at + width) o ≡ true → Takes (kept_of inputs store) (by.Input n at) width
+  takes_input : (n at width : ℕ) (o : Option ℕ) → slice_get c.inputs n ≡ o → input_holds c.nets (at + width) o ≡ true → Takes (kept_of inputs store) (by.Input n at) width
   takes_input n at width None e h = cc h
   takes_input n at width (Some net) e h =
       let v = value_at (slice_index (map (λ (x : Net). x.width) c.nets)) inputs c.inputs n net are e in
@@ -75,7 +75,7 @@ module _ (c : Circuit) (inputs : List BitValue) (store : Store) (are : AreInputs
       let le : at + width ≤ x.width = leb-true (at + width) x.width t.1 in
       (v.0, ap (option_and_then (λ os. slice_get os n)) outs.1 ∙ v.1, omega (arith, le, v.2))
 
-  takes : (width : ℕ) (b : By) → driver_fits c width b ≡ true → is_kept b ≡ true → Takes (kept_of inputs store) b width
+  takes : (width : ℕ) (b : By) → driver_fits (drivers_of c) width b ≡ true → is_kept b ≡ true → Takes (kept_of inputs store) b width
   takes width (by.Const v) fits is = (v, refl, (let e : v.width ≡ width = grind (arith, nat_tests) in omega (arith, e)))
   takes width (by.Input n at) fits is = takes_input n at width (slice_get c.inputs n) refl fits
   takes width (by.Wire n at) fits is = cc is

@@ -6,7 +6,7 @@ use Rattle.std.proofs.lemmas.Bool.{cases_Bool, false≢true}
 use Rattle.sim_base.specs.BitValue.{BitValue}
 use Rattle.circuit.specs.Signal.{Digits}
 use Rattle.circuit.specs.State.{State}
-use Rattle.circuit.specs.Valid.{driver_fits}
+use Rattle.circuit.specs.Valid.{driver_fits, drivers_of}
 use Rattle.circuit.specs.Valuation.{IsValuation, cell_digit, covers, drive_of, driven, given, read_digit}
 use Rattle.circuit.specs.declared.netlist.Circuit.{Circuit}
 use Rattle.circuit.specs.declared.netlist.Drive.{Drive}
@@ -101,7 +101,7 @@ final_right c nodes roots k digits nets are right net bit final =
     there_by c nodes k r.by (bit - r.at) n.1 n.3 (final n.0 n.1 n.2))
 
 -- behind all nodes all bits have their digits
-all_there : (c : Circuit) (nodes : List Node) (width : ℕ) (b : By) (i : ℕ) (o : SourceBit) → IsOrdered c nodes → driver_fits c width b ≡ true → root_source b i ≡ Some o → IsThereBy c nodes (length nodes) b
+all_there : (c : Circuit) (nodes : List Node) (width : ℕ) (b : By) (i : ℕ) (o : SourceBit) → IsOrdered c nodes → driver_fits (drivers_of c) width b ≡ true → root_source b i ≡ Some o → IsThereBy c nodes (length nodes) b
 all_there c nodes width (by.Const v) i o order fits e = tt
 all_there c nodes width (by.Input n at) i o order fits e = tt
 all_there c nodes width (by.Wire n at) i o order fits e = cc e

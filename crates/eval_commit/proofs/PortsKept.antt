@@ -155,24 +155,24 @@ start_stored_is (m ∷ ms) =
     init_numbers [] = refl
     init_numbers (p ∷ ps) = ap (λ ns. p.init.number ∷ ns) (init_numbers ps)
 
-init_widths : (c : Circuit) (m : Mem) (abits : ℕ) (ps : List ReadPort) → list_all (read_fits c m abits) ps ≡ true → widths (map (λ p. p.init) ps) ≡ map (λ _. m.width) ps
+init_widths : (c : Circuit) (m : Mem) (abits : ℕ) (ps : List ReadPort) → list_all (read_fits c.nets m abits) ps ≡ true → widths (map (λ p. p.init) ps) ≡ map (λ _. m.width) ps
 init_widths c m abits [] e = refl
 init_widths c m abits (p ∷ ps) e =
-    let t = and_parts (read_fits c m abits p) (list_all (read_fits c m abits) ps) e in
-    let a = and_parts (sig_of c 1 p.clk) _ t.0 in
-    let b = and_parts (sig_of c 1 p.en) _ a.1 in
-    let d = and_parts (sig_of c abits p.addr) _ b.1 in
+    let t = and_parts (read_fits c.nets m abits p) (list_all (read_fits c.nets m abits) ps) e in
+    let a = and_parts (sig_of c.nets 1 p.clk) _ t.0 in
+    let b = and_parts (sig_of c.nets 1 p.en) _ a.1 in
+    let d = and_parts (sig_of c.nets abits p.addr) _ b.1 in
     let s = and_parts (length p.see == length m.writes) (p.init.width == m.width) d.1 in
     let i : p.init.width ≡ m.width = (let h = s.1 in grind (arith, nat_tests)) in
     let u : widths (map (λ p. p.init) ps) ≡ map (λ _. m.width) ps = init_widths c m abits ps t.1 in
     cc (i, u)
 
-mem_init_widths : (c : Circuit) (m : Mem) → mem_fits c m ≡ true → widths (map (λ p. p.init) m.reads) ≡ port_widths m
+mem_init_widths : (c : Circuit) (m : Mem) → mem_fits c.nets m ≡ true → widths (map (λ p. p.init) m.reads) ≡ port_widths m
 mem_init_widths c m e =
     let a = and_parts (nat_le m.width widest) _ e in
     let b = and_parts (m.init.width == m.size * m.width) _ a.1 in
     let d = and_parts (is_countable (length m.reads)) _ b.1 in
-    let r = and_parts (list_all (read_fits c m (address_width m.reads m.writes)) m.reads) _ d.1 in
+    let r = and_parts (list_all (read_fits c.nets m (address_width m.reads m.writes)) m.reads) _ d.1 in
     init_widths c m (address_width m.reads m.writes) m.reads r.0
 
 -- the start values of the read ports have the widths of rows

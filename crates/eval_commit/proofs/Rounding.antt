@@ -7,7 +7,7 @@ use Rattle.sim_base.specs.BitValue.{BitValue}
 use Rattle.circuit.specs.Signal.{Digits, Reads, sig_number}
 use Rattle.circuit.specs.Output.{ReadsBit, output}
 use Rattle.circuit.specs.State.{State, addressed_row}
-use Rattle.circuit.specs.Valid.{driver_fits, port_holds}
+use Rattle.circuit.specs.Valid.{driver_fits, drivers_of, port_holds}
 use Rattle.circuit.specs.Valuation.{IsValuation, cell_digit, covers, given, port_digit, read_digit}
 use Rattle.circuit.specs.declared.netlist.Circuit.{Circuit}
 use Rattle.circuit.specs.declared.netlist.Drive.{Drive}
@@ -105,7 +105,7 @@ module _ (c : Circuit) (inputs : List BitValue) (rows : List RowValues) (store :
   there_kept (by.Reg n at) t = refl
   there_kept (by.Read m n at) t = refl
 
-  given_kept : (width i : ℕ) (v : BitValue) (b : By) → driver_fits c width b ≡ true → IsThereBy c nodes 0 b → kept_value (kept_of inputs store) b ≡ Some v → bit_at v.number (offset_of b + i) ≡ given c state (numbers inputs) digits b i
+  given_kept : (width i : ℕ) (v : BitValue) (b : By) → driver_fits (drivers_of c) width b ≡ true → IsThereBy c nodes 0 b → kept_value (kept_of inputs store) b ≡ Some v → bit_at v.number (offset_of b + i) ≡ given c state (numbers inputs) digits b i
   given_kept width i v (by.Const u) fits t e =
       let f : u ≡ v = cc e in
       let j : 0 + i ≡ i = omega arith in

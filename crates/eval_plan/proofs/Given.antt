@@ -3,7 +3,7 @@ use Rattle.std.proofs.Common.{◌≡◌, ℕ, ◌+◌, ◌<◌, ◌≤◌, List,
 use Rattle.std.specs.Prelude.{slice_get, slice_index}
 use Rattle.std.proofs.lemmas.Bool.{and_parts, cases_eq, cases_lt, ltb-true}
 use Rattle.std.proofs.lemmas.List.{get_or_past}
-use Rattle.circuit.specs.Valid.{cell_holds, driver_fits, input_holds, net_holds, port_holds, register_holds}
+use Rattle.circuit.specs.Valid.{cell_holds, driver_fits, drivers_of, input_holds, net_holds, port_holds, register_holds}
 use Rattle.circuit.specs.declared.netlist.Circuit.{Circuit}
 use Rattle.circuit.specs.declared.netlist.Drive.{Drive}
 use Rattle.circuit.specs.declared.netlist.By.{By}
@@ -31,7 +31,7 @@ use Rattle.eval_plan.proofs.Listed.{one_more_entry, same_entries, same_lists}
 
 -- ---- what drives is there
 
-held_input : (c : Circuit) (n end : ℕ) (o : Option ℕ) → slice_get c.inputs n ≡ o → input_holds c end o ≡ true → n < length c.inputs
+held_input : (c : Circuit) (n end : ℕ) (o : Option ℕ) → slice_get c.inputs n ≡ o → input_holds c.nets end o ≡ true → n < length c.inputs
 held_input c n end None e h = cc h
 held_input c n end (Some x) e h = within c.inputs n x e
 
@@ -47,14 +47,14 @@ held_port : (c : Circuit) (m n end : ℕ) (o : Option Mem) → slice_get c.mems 
 held_port c m n end None e h = cc h
 held_port c m n end (Some x) e h = (x, e, ltb-true n (length x.reads) (and_parts (nat_lt n (length x.reads)) (nat_le end x.width) h).0)
 
-pub by_cell : (c : Circuit) (width n at : ℕ) → driver_fits c width (by.Cell n at) ≡ true → IsPart c (node.Cell n)
+pub by_cell : (c : Circuit) (width n at : ℕ) → driver_fits (drivers_of c) width (by.Cell n at) ≡ true → IsPart c (node.Cell n)
 by_cell c width n at h = held_cell c n (at + width) (slice_get c.cells n) refl h
 
-pub by_read : (c : Circuit) (width m n at : ℕ) → driver_fits c width (by.Read m n at) ≡ true → IsPart c (node.Read m n)
+pub by_read : (c : Circuit) (width m n at : ℕ) → driver_fits (drivers_of c) width (by.Read m n at) ≡ true → IsPart c (node.Read m n)
 by_read c width m n at h = held_port c m n (at + width) (slice_get c.mems m) refl h
 
-pub root_fits : (c : Circuit) (roots : List Drive) → AreRoots c roots → (k : ℕ) (r : Drive) → slice_get roots k ≡ Some r → driver_fits c r.width r.by ≡ true
-root_fits c roots are k r at = (and_parts (net_holds c r.net (r.at + r.width)) (driver_fits c r.width r.by) (are.right k r at).inside).1
+pub root_fits : (c : Circuit) (roots : List Drive) → AreRoots c roots → (k : ℕ) (r : Drive) → slice_get roots k ≡ Some r → driver_fits (drivers_of c) r.width r.by ≡ true
+root_fits c roots are k r at = (and_parts (net_holds c.nets r.net (r.at + r.width)) (driver_fits (drivers_of c) r.width r.by) (are.right k r at).inside).1
 
 -- ---- how many rows there are
 
@@ -62,7 +62,7 @@ module _ (c : Circuit) (nodes : List Node) (ports : List ℕ) (parts : AreParts 
   part_there : (n : Node) → IsPart c n → part_place c n < length nodes
   part_there n is = within nodes (part_place c n) n (parts.every n is)
 
-  pub part_low : (width row : ℕ) (b : By) → driver_fits c width b ≡ true → driver_row c kind.Part b ≡ Some row → row < length nodes
+  pub part_low : (width row : ℕ) (b : By) → driver_fits (drivers_of c) width b ≡ true → driver_row c kind.Part b ≡ Some row → row < length nodes
   part_low width row (by.Const v) fits e = cc e
   part_low width row (by.Input n at) fits e = cc e
   part_low width row (by.Wire n at) fits e = cc e
@@ -89,7 +89,7 @@ module _ (c : Circuit) (nodes : List Node) (ports : List ℕ) (parts : AreParts 
     | inr past ↦ (let h = get_or_past ports m 0 (omega (arith, past, parts.ports_long)) in omega (arith, h))
   ]
 
-pub register_low : (c : Circuit) (width row : ℕ) (b : By) → driver_fits c width b ≡ true → driver_row c kind.Register b ≡ Some row → row < length c.regs
+pub register_low : (c : Circuit) (width row : ℕ) (b : By) → driver_fits (drivers_of c) width b ≡ true → driver_row c kind.Register b ≡ Some row → row < length c.regs
 register_low c width row (by.Const v) fits e = cc e
 register_low c width row (by.Input n at) fits e = cc e
 register_low c width row (by.Wire n at) fits e = cc e
@@ -157,7 +157,7 @@ constant_taken c n (by.Reg m at) e = cc e
 constant_taken c n (by.Read l m at) e = cc e
 
 -- the part of a row
-pub part_taken : (c : Circuit) (width row : ℕ) (b : By) → driver_fits c width b ≡ true → driver_row c kind.Part b ≡ Some row → (n : Node) → IsPart c n → part_place c n ≡ row → TakesPart n b
+pub part_taken : (c : Circuit) (width row : ℕ) (b : By) → driver_fits (drivers_of c) width b ≡ true → driver_row c kind.Part b ≡ Some row → (n : Node) → IsPart c n → part_place c n ≡ row → TakesPart n b
 part_taken c width row (by.Const v) fits e n is at = cc e
 part_taken c width row (by.Input m i) fits e n is at = cc e
 part_taken c width row (by.Wire m i) fits e n is at = cc e

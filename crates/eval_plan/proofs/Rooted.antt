@@ -4,7 +4,7 @@ use Rattle.std.specs.Prelude.{slice_get, slice_index}
 use Rattle.std.specs.Int.{bit_at}
 use Rattle.std.proofs.lemmas.Bool.{cases_eq, cases_lt}
 use Rattle.circuit.specs.Acyclic.{AreDrivesInside, IsDrivenOnce}
-use Rattle.circuit.specs.Valid.{drive_fits}
+use Rattle.circuit.specs.Valid.{drive_fits, drivers_of}
 use Rattle.circuit.specs.Valuation.{covers, drive_of}
 use Rattle.circuit.specs.declared.netlist.Circuit.{Circuit}
 use Rattle.circuit.specs.declared.netlist.Drive.{Drive}
@@ -176,7 +176,7 @@ module _ (c : Circuit) (inside : AreDrivesInside c) (once : IsDrivenOnce c) (own
         (omega (arith, i.0, (run_origin x.0 x.1).number, x.2), omega (arith, k.1, (run_origin y.0 y.1).number, y.2, some))
 
     -- the root of the run
-    module _ (r : Drive) (net : r.net ≡ d.net) (r_at : r.at ≡ d.at + a) (width : r.width ≡ n) (fits : drive_fits c r ≡ true)
+    module _ (r : Drive) (net : r.net ≡ d.net) (r_at : r.at ≡ d.at + a) (width : r.width ≡ n) (fits : drive_fits (drivers_of c) r ≡ true)
         (source : (j : ℕ) → j < n → root_source r.by j ≡ root_source e.by (origin - start_of c.nets e + j)) where
       root_bit : (x : Bit) → covers x.0 x.1 r ≡ true → InRun x
       root_bit x h =

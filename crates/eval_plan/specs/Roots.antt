@@ -1,6 +1,6 @@
 -- The roots of a circuit: drives with the wires between left out.
 use Rattle.std.specs.Prelude.{◌≡◌, ℕ, ◌-◌, ◌<◌, List, Some, slice_get, true, Option, None}
-use Rattle.circuit.specs.Valid.{drive_fits}
+use Rattle.circuit.specs.Valid.{drive_fits, drivers_of}
 use Rattle.circuit.specs.Valuation.{covers}
 use Rattle.circuit.specs.declared.netlist.By.TheVariants as by
 use Rattle.circuit.specs.declared.netlist.By.{By}
@@ -26,7 +26,7 @@ CoversIn drives i d x = (slice_get drives i ≡ Some d) × (covers x.0 x.1 d ≡
 pub record IsRoot (c : Circuit) (r : Drive) : Type 0 where
   pub wide : 0 < r.width
   pub unwired : IsWire r.by → ⊥
-  pub inside : drive_fits c r ≡ true
+  pub inside : drive_fits (drivers_of c) r ≡ true
   pub names : (x : Bit) → covers x.0 x.1 r ≡ true → (s : ℕ) × (o : SourceBit) × (source_within c s x.0 x.1 ≡ Some o) × (root_source r.by (x.1 - r.at) ≡ Some o)
 
 -- no two drives of a list share a bit

@@ -1,6 +1,6 @@
 //! Lists for each source the roots that take from it.
 ghost use Rattle.std.specs.Prelude.{◌≡◌, ℕ, ◌+◌, ◌<◌, ◌^◌, length, true, IfOk, OnOk, slice_get, slice_index, Some};
-ghost use Rattle.circuit.specs.Valid.{driver_fits, is_valid};
+ghost use Rattle.circuit.specs.Valid.{driver_fits, drivers_of, is_valid};
 ghost use Rattle.circuit.specs.declared.netlist.By.{By as TheBy};
 ghost use Rattle.eval_plan.specs.Roots.{AreRoots};
 ghost use Rattle.eval_plan.specs.Sources.{AreSources};
@@ -19,7 +19,7 @@ use std::alloc::Global;
 /// How many rows the sources of a kind have.
 fn row_count(circuit: &Circuit, parts: &Parts, kind: Kind) -> usize
     requires { AreParts circuit.now parts.now.nodes.items parts.now.ports.items }
-    ensures { (width row : ℕ) (b : TheBy) → driver_fits circuit.now width b ≡ true → driver_row circuit.now kind b ≡ Some row → row < result }
+    ensures { (width row : ℕ) (b : TheBy) → driver_fits (drivers_of circuit.now) width b ≡ true → driver_row circuit.now kind b ≡ Some row → row < result }
 {
     match kind {
         Kind::Input => circuit.inputs.len(),
@@ -32,7 +32,7 @@ fn row_count(circuit: &Circuit, parts: &Parts, kind: Kind) -> usize
 /// The row of what drives, if it is of a kind.
 fn driver_row(circuit: &Circuit, parts: &Parts, kind: Kind, width: u32, by: &By) -> Option<usize>
     requires parts { AreParts circuit.now parts.now.nodes.items parts.now.ports.items }
-    requires fits { driver_fits circuit.now width by.now ≡ true }
+    requires fits { driver_fits (drivers_of circuit.now) width by.now ≡ true }
     ensures { result ≡ driver_row circuit.now kind by.now }
 {
     let _ = width;

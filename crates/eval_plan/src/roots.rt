@@ -1,7 +1,7 @@
 //! The drives of a circuit with the wires between left out.
 ghost use Rattle.std.specs.Prelude.{◌≡◌, ◌≢◌, ℕ, ◌+◌, ◌-◌, ◌<◌, ◌≤◌, IfOk, OnOk, length, true, slice_get, slice_index, Some};
 ghost use Rattle.std.specs.Int.{bit_at};
-ghost use Rattle.circuit.specs.Valid.{drive_fits, driver_fits, is_valid};
+ghost use Rattle.circuit.specs.Valid.{drive_fits, driver_fits, drivers_of, is_valid};
 ghost use Rattle.circuit.specs.Acyclic.{IsInOrder};
 ghost use Rattle.circuit.specs.declared.netlist.Drive.{Drive as TheDrive};
 ghost use Rattle.driver_check.specs.Numbers.{start_of};
@@ -24,9 +24,9 @@ fn shifted(
     count: u32,
 ) -> Result<By, NoMemory>
     requires valid { is_valid circuit.now ≡ true }
-    requires fits { drive_fits circuit.now drive.now ≡ true }
+    requires fits { drive_fits (drivers_of circuit.now) drive.now ≡ true }
     requires within { offset + count ≤ drive.now.width }
-    ensures fits { IfOk result (λ b. driver_fits circuit.now count b ≡ true) }
+    ensures fits { IfOk result (λ b. driver_fits (drivers_of circuit.now) count b ≡ true) }
     ensures source { IfOk result (λ b. (j : ℕ) → j < count → root_source b j ≡ root_source drive.now.by (offset + j)) }
 {
     let _ = circuit;
@@ -85,15 +85,15 @@ fn root_of(
 ) -> Result<Drive, NoMemory>
     requires valid { is_valid circuit.now ≡ true }
     requires sorting { IsSorting circuit.now sorting.now }
-    requires drive { drive_fits circuit.now drive.now ≡ true }
-    requires owner { drive_fits circuit.now owner.now ≡ true }
+    requires drive { drive_fits (drivers_of circuit.now) drive.now ≡ true }
+    requires owner { drive_fits (drivers_of circuit.now) owner.now ≡ true }
     requires inside { at + count ≤ drive.now.width }
     requires origin { start_of circuit.now.nets owner.now ≤ origin }
     requires owner_inside { origin + count ≤ start_of circuit.now.nets owner.now + owner.now.width }
     ensures net { IfOk result (λ r. r.net ≡ drive.now.net) }
     ensures at { IfOk result (λ r. r.at ≡ drive.now.at + at) }
     ensures width { IfOk result (λ r. r.width ≡ count) }
-    ensures fits { IfOk result (λ r. drive_fits circuit.now r ≡ true) }
+    ensures fits { IfOk result (λ r. drive_fits (drivers_of circuit.now) r ≡ true) }
     ensures source { IfOk result (λ r. (j : ℕ) → j < count → root_source r.by j ≡ root_source owner.now.by (origin - start_of circuit.now.nets owner.now + j)) }
 {
     let start = sorting.numbering.start(circuit.nets.as_slice(), owner);

@@ -12,11 +12,11 @@ use Rattle.circuit.specs.declared.store.Store.{Store}
 use Rattle.state_cells.proofs.Fitting.{LieIn, eq_from, le_from, sig_there}
 use Rattle.memory_cells.specs.Ports.{IsMemoryOf, IsReadPortOf, IsWritePortOf}
 
-read_in : (c : Circuit) (before now : Store) (m : Mem) (abits : ℕ) (p : ReadPort) → LieIn c before → LieIn c now → read_fits c m abits p ≡ true → IsReadPortOf before.nets now.nets m p
+read_in : (c : Circuit) (before now : Store) (m : Mem) (abits : ℕ) (p : ReadPort) → LieIn c before → LieIn c now → read_fits c.nets m abits p ≡ true → IsReadPortOf before.nets now.nets m p
 read_in c before now m abits p b w e =
-    let t = and_parts (sig_of c 1 p.clk) _ e in
-    let u = and_parts (sig_of c 1 p.en) _ t.1 in
-    let v = and_parts (sig_of c abits p.addr) _ u.1 in
+    let t = and_parts (sig_of c.nets 1 p.clk) _ e in
+    let u = and_parts (sig_of c.nets 1 p.en) _ t.1 in
+    let v = and_parts (sig_of c.nets abits p.addr) _ u.1 in
     let x = and_parts (length p.see == length m.writes) _ v.1 in
     record {
       clk_before = (b p.clk (sig_there c 1 p.clk t.0).0).inside;
@@ -29,11 +29,11 @@ read_in c before now m abits p b w e =
       see = eq_from (length p.see) (length m.writes) x.0;
     }
 
-write_in : (c : Circuit) (before now : Store) (m : Mem) (abits : ℕ) (p : WritePort) → LieIn c before → LieIn c now → write_fits c m abits p ≡ true → IsWritePortOf before.nets now.nets m p
+write_in : (c : Circuit) (before now : Store) (m : Mem) (abits : ℕ) (p : WritePort) → LieIn c before → LieIn c now → write_fits c.nets m abits p ≡ true → IsWritePortOf before.nets now.nets m p
 write_in c before now m abits p b w e =
-    let t = and_parts (sig_of c 1 p.clk) _ e in
-    let u = and_parts (sig_of c m.width p.en) _ t.1 in
-    let v = and_parts (sig_of c abits p.addr) _ u.1 in
+    let t = and_parts (sig_of c.nets 1 p.clk) _ e in
+    let u = and_parts (sig_of c.nets m.width p.en) _ t.1 in
+    let v = and_parts (sig_of c.nets abits p.addr) _ u.1 in
     record {
       clk_before = (b p.clk (sig_there c 1 p.clk t.0).0).inside;
       clk = (w p.clk (sig_there c 1 p.clk t.0).0).inside;
@@ -54,21 +54,21 @@ passes test (x ∷ xs) (suc k) d e lt = passes test xs k d (and_parts (test x) (
 all_from : {X : Type 0} (test : X → Bool) (P : X → Type 0) → ((x : X) → test x ≡ true → P x) → (xs : List X) → list_all test xs ≡ true → All P xs
 all_from test P each xs e = λ k d lt. each (get_or xs k d) (passes test xs k d e lt)
 
-pub memory_in : (c : Circuit) (before now : Store) (m : Mem) → LieIn c before → LieIn c now → mem_fits c m ≡ true → IsMemoryOf before.nets now.nets m
+pub memory_in : (c : Circuit) (before now : Store) (m : Mem) → LieIn c before → LieIn c now → mem_fits c.nets m ≡ true → IsMemoryOf before.nets now.nets m
 memory_in c before now m b w e =
     let abits = address_width m.reads m.writes in
     let t = and_parts (nat_le m.width widest) _ e in
     let u = and_parts (m.init.width == m.size * m.width) _ t.1 in
     let v = and_parts (is_countable (length m.reads)) _ u.1 in
-    let x = and_parts (list_all (read_fits c m abits) m.reads) _ v.1 in
+    let x = and_parts (list_all (read_fits c.nets m abits) m.reads) _ v.1 in
     record {
       width = le_from m.width widest t.0;
       init = eq_from m.init.width (m.size * m.width) u.0;
-      reads = all_from (read_fits c m abits) (IsReadPortOf before.nets now.nets m) (λ p. read_in c before now m abits p b w) m.reads x.0;
-      writes = all_from (write_fits c m abits) (IsWritePortOf before.nets now.nets m) (λ p. write_in c before now m abits p b w) m.writes x.1;
+      reads = all_from (read_fits c.nets m abits) (IsReadPortOf before.nets now.nets m) (λ p. read_in c before now m abits p b w) m.reads x.0;
+      writes = all_from (write_fits c.nets m abits) (IsWritePortOf before.nets now.nets m) (λ p. write_in c before now m abits p b w) m.writes x.1;
     }
 
-pub init_in : (c : Circuit) (m : Mem) → mem_fits c m ≡ true → m.init.width ≡ m.size * m.width
+pub init_in : (c : Circuit) (m : Mem) → mem_fits c.nets m ≡ true → m.init.width ≡ m.size * m.width
 init_in c m e =
     let t = and_parts (nat_le m.width widest) _ e in
     let u = and_parts (m.init.width == m.size * m.width) _ t.1 in

@@ -2,7 +2,7 @@
 use Rattle.std.specs.Prelude.{◌≡◌, ◌≤◌, List, if◌then◌else◌}
 use Rattle.sim_base.specs.BitValue.{BitValue}
 use Rattle.circuit.specs.Signal.{sig_width}
-use Rattle.circuit.specs.Valid.{Ports, ports_of, widest, width_where}
+use Rattle.circuit.specs.Valid.{Ports, ports_of_kind, widest, width_where}
 use Rattle.circuit.specs.declared.register.Reg.{Reg}
 use Rattle.signal_words.specs.Values.{AreInside}
 
@@ -20,7 +20,7 @@ pub record HasWidths (ports : Ports) (r : Reg) : Type 0 where
 
 -- and each signal lies inside the nets: the clock in both rounds, the others in this one
 pub record IsRegisterOf (before now : List BitValue) (r : Reg) : Type 0 where
-  pub widths : HasWidths (ports_of r.kind) r
+  pub widths : HasWidths (ports_of_kind r.kind) r
   pub clk_before : AreInside before r.clk
   pub clk : AreInside now r.clk
   pub d : AreInside now r.d

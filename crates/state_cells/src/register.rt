@@ -4,7 +4,7 @@ ghost use Rattle.std.specs.Int.{bit_at};
 ghost use Rattle.sim_base.specs.BitValue.{bit_value};
 ghost use Rattle.circuit.specs.Next.{register_inputs, bit_by_bit, next_number};
 ghost use Rattle.circuit.specs.Signal.{Digits, sig_number, sig_value, sig_width};
-ghost use Rattle.circuit.specs.Valid.{ports_of, widest};
+ghost use Rattle.circuit.specs.Valid.{ports_of_kind, widest};
 ghost use Rattle.signal_words.specs.Values.{AreInside, digits_in};
 ghost use Rattle.state_cells.specs.Registers.{HasWidths, IsRegisterOf};
 ghost use Rattle.state_cells.specs.Sources.{has_source, number_of};
@@ -34,7 +34,7 @@ pub fn next(reg: &Reg, before: &Store, now: &Store, into: &mut Bits) -> bool
 
 /// Whether registers of a kind have ports that set and clear each bit.
 fn has_bits(kind: RegKind) -> bool
-    ensures { result ≡ (ports_of kind).bits }
+    ensures { result ≡ (ports_of_kind kind).bits }
 {
     matches!(
         kind,
@@ -44,8 +44,8 @@ fn has_bits(kind: RegKind) -> bool
 
 /// Puts the value that comes from a source.
 fn put_whole(reg: &Reg, source: Source, nets: &[Bits], into: &mut Bits) -> bool
-    requires there { has_source (ports_of reg.now.kind) source ≡ true }
-    requires widths { HasWidths (ports_of reg.now.kind) reg.now }
+    requires there { has_source (ports_of_kind reg.now.kind) source ≡ true }
+    requires widths { HasWidths (ports_of_kind reg.now.kind) reg.now }
     requires d { AreInside nets.now reg.now.d }
     requires ad { AreInside nets.now reg.now.ad }
     requires width { into.old.width ≡ reg.now.width }

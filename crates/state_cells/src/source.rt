@@ -2,7 +2,7 @@
 ghost use Rattle.std.specs.Prelude.{◌≡◌, ℕ, ◌≤◌, true, if◌then◌else◌};
 ghost use Rattle.circuit.specs.Next.{RegisterInputs, register_inputs, has_edge, is_active, next_number};
 ghost use Rattle.circuit.specs.Signal.{sig_width};
-ghost use Rattle.circuit.specs.Valid.{Ports, ports_of};
+ghost use Rattle.circuit.specs.Valid.{Ports, ports_of_kind};
 ghost use Rattle.signal_words.specs.Values.{AreInside, digits_in};
 ghost use Rattle.state_cells.specs.Registers.{IsRegisterOf};
 ghost use Rattle.state_cells.specs.Sources.{has_source, is_input, number_of, under_bits};
@@ -95,9 +95,9 @@ fn load_or(active: bool, other: Source) -> Source
 /// Where the next value comes from: by the first line of its kind's table that holds.
 pub(crate) fn source_of(reg: &Reg, before: &[Bits], now: &[Bits]) -> Source
     requires { IsRegisterOf before.now now.now reg.now }
-    ensures there { has_source (ports_of reg.now.kind) result ≡ true }
+    ensures there { has_source (ports_of_kind reg.now.kind) result ≡ true }
     ensures number { (own : ℕ) → let a = register_inputs (digits_in before.now) (digits_in now.now) reg.now in
-        under_bits (ports_of reg.now.kind).bits reg.now.width a (number_of result a own) ≡ next_number (digits_in before.now) (digits_in now.now) reg.now own }
+        under_bits (ports_of_kind reg.now.kind).bits reg.now.width a (number_of result a own) ≡ next_number (digits_in before.now) (digits_in now.now) reg.now own }
 {
     match reg.kind {
         RegKind::Dff | RegKind::Dffsr => input_where(edge(reg, before, now)),

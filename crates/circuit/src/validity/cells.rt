@@ -4,7 +4,7 @@ ghost use Rattle.circuit.specs.Signal.{sig_width};
 ghost use Rattle.circuit.specs.Valid.{is_unary, is_binary, is_narrow, widths_fit, widths_of, cell_fits};
 
 use crate::cell::{Cell, Op};
-use crate::netlist::Circuit;
+use crate::netlist::Net;
 use crate::validity::signals::{WIDEST, sig_fits, sig_width};
 use std::marker::Model;
 
@@ -116,11 +116,11 @@ fn widths_of(cell: &Cell) -> Widths
 }
 
 /// Whether the signals of a cell fit, and have the widths that its type gives them.
-pub fn cell_fits(circuit: &Circuit, cell: &Cell) -> bool
-    ensures { result ≡ cell_fits circuit.now cell.now }
+pub fn cell_fits(nets: &[Net], cell: &Cell) -> bool
+    ensures { result ≡ cell_fits nets.now cell.now }
 {
-    sig_fits(circuit, cell.a.as_slice())
-        && (sig_fits(circuit, cell.b.as_slice())
-            && (sig_fits(circuit, cell.s.as_slice())
+    sig_fits(nets, cell.a.as_slice())
+        && (sig_fits(nets, cell.b.as_slice())
+            && (sig_fits(nets, cell.s.as_slice())
                 && (cell.width <= WIDEST && widths_fit(cell.op, &widths_of(cell)))))
 }

@@ -3,34 +3,34 @@ ghost use Rattle.std.specs.Prelude.{◌≡◌, Some};
 ghost use Rattle.circuit.specs.Valid.{trigger_fits, diag_fits};
 
 use crate::diagnostic::{Diag, Trigger};
-use crate::netlist::Circuit;
+use crate::netlist::Net;
+use crate::validity::counts::is_countable;
 use crate::validity::items::{is_utf8, text_fits};
-use crate::validity::memories::is_countable;
 use crate::validity::signals::{sig_fits, sig_of, sig_width};
 
-fn is_trigger(circuit: &Circuit, trigger: &Trigger) -> bool
-    ensures { result ≡ trigger_fits circuit.now (Some trigger.now) }
+fn is_trigger(nets: &[Net], trigger: &Trigger) -> bool
+    ensures { result ≡ trigger_fits nets.now (Some trigger.now) }
 {
     let on = trigger.on.as_slice();
-    sig_fits(circuit, on) && trigger.rising.len() == sig_width(on) as usize
+    sig_fits(nets, on) && trigger.rising.len() == sig_width(on) as usize
 }
 
-fn trigger_fits(circuit: &Circuit, trigger: &Option<Trigger>) -> bool
-    ensures { result ≡ trigger_fits circuit.now trigger.now }
+fn trigger_fits(nets: &[Net], trigger: &Option<Trigger>) -> bool
+    ensures { result ≡ trigger_fits nets.now trigger.now }
 {
     match trigger {
-        Some(trigger) => is_trigger(circuit, trigger),
+        Some(trigger) => is_trigger(nets, trigger),
         None => true,
     }
 }
 
 /// Whether the signals of a diagnostic have their widths, and its texts are UTF-8.
-pub fn diag_fits(circuit: &Circuit, diag: &Diag) -> bool
-    ensures { result ≡ diag_fits circuit.now diag.now }
+pub fn diag_fits(nets: &[Net], diag: &Diag) -> bool
+    ensures { result ≡ diag_fits nets.now diag.now }
 {
-    sig_of(circuit, 1, diag.a.as_slice())
-        && (sig_of(circuit, 1, diag.en.as_slice())
-            && (trigger_fits(circuit, &diag.trigger)
+    sig_of(nets, 1, diag.a.as_slice())
+        && (sig_of(nets, 1, diag.en.as_slice())
+            && (trigger_fits(nets, &diag.trigger)
                 && (is_countable(diag.text.len())
                     && (is_utf8(&diag.text) && text_fits(&diag.src)))))
 }

@@ -6,8 +6,9 @@ ghost use Rattle.circuit.specs.Shown.{slots_of};
 ghost use Rattle.circuit.specs.Valid.{kind_fits, text_fits, item_fits, slots_run, names_rise, stands_before, scope_fits, names_differ, is_node_of, is_shown_once, numbers_differ, inputs_fit};
 
 use crate::item::{Item, ItemKind, Scope};
-use crate::netlist::Circuit;
-use crate::validity::memories::is_countable;
+use crate::memory::Mem;
+use crate::netlist::{Circuit, Net};
+use crate::validity::counts::is_countable;
 use sim_base::Name;
 use std::str::from_utf8;
 
@@ -27,31 +28,33 @@ pub fn text_fits(text: &Option<Name>) -> bool
     }
 }
 
-fn kind_fits(circuit: &Circuit, kind: ItemKind) -> bool
-    ensures { result ≡ kind_fits circuit.now kind }
+fn kind_fits(nets: &[Net], mems: &[Mem], kind: ItemKind) -> bool
+    ensures { result ≡ kind_fits nets.now mems.now kind }
 {
     match kind {
-        ItemKind::Node { net, .. } => (net as usize) < circuit.nets.len(),
-        ItemKind::Memory { mem } => (mem as usize) < circuit.mems.len(),
+        ItemKind::Node { net, .. } => (net as usize) < nets.len(),
+        ItemKind::Memory { mem } => (mem as usize) < mems.len(),
     }
 }
 
 /// Whether the scope of an item and what it shows are there, and its texts are UTF-8.
 pub fn item_fits(circuit: &Circuit, item: &Item) -> bool
-    ensures { result ≡ item_fits circuit.now item.now }
+    ensures { result ≡ item_fits circuit.now.nets circuit.now.mems circuit.now.scopes item.now }
 {
+    let nets = circuit.nets.as_slice();
+    let mems = circuit.mems.as_slice();
     (item.scope as usize) < circuit.scopes.len()
-        && (kind_fits(circuit, item.kind)
+        && (kind_fits(nets, mems, item.kind)
             && (is_countable(item.name.len()) && (is_utf8(&item.name) && text_fits(&item.src))))
 }
 
 /// How many slots an item takes.
-pub fn slots_of(circuit: &Circuit, kind: ItemKind) -> u32
-    ensures { result ≡ slots_of circuit.now kind }
+pub fn slots_of(mems: &[Mem], kind: ItemKind) -> u32
+    ensures { result ≡ slots_of mems.now kind }
 {
     match kind {
         ItemKind::Node { .. } => 1,
-        ItemKind::Memory { mem } => match circuit.mems.get(mem as usize) {
+        ItemKind::Memory { mem } => match mems.get(mem as usize) {
             Some(mem) => mem.size,
             None => 0,
         },
@@ -59,28 +62,17 @@ pub fn slots_of(circuit: &Circuit, kind: ItemKind) -> u32
 }
 
 /// Whether the first slot of each item is the number of slots before it.
-pub fn slots_run(circuit: &Circuit, items: &[Item]) -> bool
-    ensures { result ≡ slots_run circuit.now 0 items.now }
+pub fn slots_run(mems: &[Mem], items: &[Item]) -> bool
+    ensures { result ≡ slots_run mems.now 0 items.now }
 {
     let mut before = 0u64;
     for item in items {
         if u64::from(item.first_slot) != before {
             return false;
         }
-        before += u64::from(slots_of(circuit, item.kind));
+        before += u64::from(slots_of(mems, item.kind));
     }
     true
-}
-
-/// How many slots the items take, and 2 ^ 32 where they take more.
-pub fn slots_of_items(circuit: &Circuit) -> u64
-    ensures { result ≡ min (sum_by (λ i. slots_of circuit.now i.kind) circuit.now.items) 4294967296 }
-{
-    let mut slots = 0u64;
-    for item in circuit.items.as_slice() {
-        slots = (slots + u64::from(slots_of(circuit, item.kind))).min(4_294_967_296);
-    }
-    slots
 }
 
 fn stands_before(item: &Item, rest: &[Item]) -> bool
@@ -179,7 +171,7 @@ fn inputs_shown(circuit: &Circuit) -> bool
 
 /// Whether each input is a net that is shown once, and none stands twice.
 pub fn inputs_fit(circuit: &Circuit) -> bool
-    ensures { result ≡ inputs_fit circuit.now }
+    ensures { result ≡ inputs_fit circuit.now.nets circuit.now.items circuit.now.inputs }
 {
     inputs_shown(circuit) && numbers_differ(circuit.inputs.as_slice())
 }

@@ -1,49 +1,43 @@
 //! Memories.
 ghost use Rattle.std.specs.Prelude.{◌≡◌, min};
 ghost use Rattle.std.specs.List.{list_all};
-ghost use Rattle.circuit.specs.Valid.{is_countable, read_fits, write_fits, address_width, mem_fits};
+ghost use Rattle.circuit.specs.Valid.{read_fits, write_fits, address_width, mem_fits};
 
 use crate::memory::{Mem, ReadPort, WritePort};
-use crate::netlist::Circuit;
+use crate::netlist::Net;
+use crate::validity::counts::is_countable;
 use crate::validity::signals::{WIDEST, sig_of, sig_width};
 
-/// Whether fewer than 4,294,967,296 are counted.
-pub fn is_countable(count: usize) -> bool
-    ensures { result ≡ is_countable count }
+fn read_fits(nets: &[Net], mem: &Mem, address: u32, port: &ReadPort) -> bool
+    ensures { result ≡ read_fits nets.now mem.now address port.now }
 {
-    count < 1 << 32
-}
-
-fn read_fits(circuit: &Circuit, mem: &Mem, address: u32, port: &ReadPort) -> bool
-    ensures { result ≡ read_fits circuit.now mem.now address port.now }
-{
-    sig_of(circuit, 1, port.clk.as_slice())
-        && (sig_of(circuit, 1, port.en.as_slice())
-            && (sig_of(circuit, address, port.addr.as_slice())
+    sig_of(nets, 1, port.clk.as_slice())
+        && (sig_of(nets, 1, port.en.as_slice())
+            && (sig_of(nets, address, port.addr.as_slice())
                 && (port.see.len() == mem.writes.len() && port.init.width() == mem.width)))
 }
 
-fn write_fits(circuit: &Circuit, mem: &Mem, address: u32, port: &WritePort) -> bool
-    ensures { result ≡ write_fits circuit.now mem.now address port.now }
+fn write_fits(nets: &[Net], mem: &Mem, address: u32, port: &WritePort) -> bool
+    ensures { result ≡ write_fits nets.now mem.now address port.now }
 {
-    sig_of(circuit, 1, port.clk.as_slice())
-        && (sig_of(circuit, mem.width, port.en.as_slice())
-            && (sig_of(circuit, address, port.addr.as_slice())
-                && sig_of(circuit, mem.width, port.word.as_slice())))
+    sig_of(nets, 1, port.clk.as_slice())
+        && (sig_of(nets, mem.width, port.en.as_slice())
+            && (sig_of(nets, address, port.addr.as_slice())
+                && sig_of(nets, mem.width, port.word.as_slice())))
 }
 
-fn reads_fit(circuit: &Circuit, mem: &Mem, address: u32) -> bool
-    ensures { result ≡ list_all (read_fits circuit.now mem.now address) mem.now.reads }
+fn reads_fit(nets: &[Net], mem: &Mem, address: u32) -> bool
+    ensures { result ≡ list_all (read_fits nets.now mem.now address) mem.now.reads }
 {
     let ports = mem.reads.as_slice();
-    ports.iter().all(|p| read_fits(circuit, mem, address, p))
+    ports.iter().all(|p| read_fits(nets, mem, address, p))
 }
 
-fn writes_fit(circuit: &Circuit, mem: &Mem, address: u32) -> bool
-    ensures { result ≡ list_all (write_fits circuit.now mem.now address) mem.now.writes }
+fn writes_fit(nets: &[Net], mem: &Mem, address: u32) -> bool
+    ensures { result ≡ list_all (write_fits nets.now mem.now address) mem.now.writes }
 {
     let ports = mem.writes.as_slice();
-    ports.iter().all(|p| write_fits(circuit, mem, address, p))
+    ports.iter().all(|p| write_fits(nets, mem, address, p))
 }
 
 /// The width of a memory's addresses, which is that of the first port that has one, and 65,537 where
@@ -59,12 +53,12 @@ fn address_width(reads: &[ReadPort], writes: &[WritePort]) -> u32
 }
 
 /// Whether the ports of a memory and its start value have their widths.
-pub fn mem_fits(circuit: &Circuit, mem: &Mem) -> bool
-    ensures { result ≡ mem_fits circuit.now mem.now }
+pub fn mem_fits(nets: &[Net], mem: &Mem) -> bool
+    ensures { result ≡ mem_fits nets.now mem.now }
 {
     let address = address_width(mem.reads.as_slice(), mem.writes.as_slice());
     mem.width <= WIDEST
         && (u64::from(mem.init.width()) == u64::from(mem.size) * u64::from(mem.width)
             && (is_countable(mem.reads.len())
-                && (reads_fit(circuit, mem, address) && writes_fit(circuit, mem, address))))
+                && (reads_fit(nets, mem, address) && writes_fit(nets, mem, address))))
 }

@@ -1,8 +1,8 @@
 //! Registers and latches.
 ghost use Rattle.std.specs.Prelude.{◌≡◌, true};
-ghost use Rattle.circuit.specs.Valid.{flip_flop, latch, ports_of, width_where, register_has, register_fits};
+ghost use Rattle.circuit.specs.Valid.{flip_flop, latch, ports_of_kind, width_where, register_has, register_fits};
 
-use crate::netlist::Circuit;
+use crate::netlist::Net;
 use crate::register::{Reg, RegKind};
 use crate::validity::signals::{WIDEST, sig_of};
 use std::marker::Model;
@@ -85,8 +85,8 @@ fn with_bits(ports: Ports) -> Ports
     }
 }
 
-fn ports_of(kind: RegKind) -> Ports
-    ensures { result ≡ ports_of kind }
+fn ports_of_kind(kind: RegKind) -> Ports
+    ensures { result ≡ ports_of_kind kind }
 {
     match kind {
         RegKind::Dff => flip_flop(),
@@ -115,8 +115,8 @@ fn width_where(there: bool, width: u32) -> u32
 }
 
 /// Whether each port has its width, and the others are empty.
-fn register_has(circuit: &Circuit, ports: &Ports, reg: &Reg) -> bool
-    ensures { result ≡ register_has circuit.now ports.now reg.now }
+fn register_has(nets: &[Net], ports: &Ports, reg: &Reg) -> bool
+    ensures { result ≡ register_has nets.now ports.now reg.now }
 {
     let each = width_where(ports.bits, reg.width);
     let clr = if ports.bits {
@@ -124,24 +124,24 @@ fn register_has(circuit: &Circuit, ports: &Ports, reg: &Reg) -> bool
     } else {
         width_where(ports.reset, 1)
     };
-    sig_of(circuit, width_where(ports.clk, 1), reg.clk.as_slice())
-        && (sig_of(circuit, width_where(ports.d, reg.width), reg.d.as_slice())
-            && (sig_of(circuit, width_where(ports.en, 1), reg.en.as_slice())
-                && (sig_of(circuit, each, reg.set.as_slice())
-                    && (sig_of(circuit, clr, reg.clr.as_slice())
-                        && (sig_of(circuit, width_where(ports.load, 1), reg.load.as_slice())
+    sig_of(nets, width_where(ports.clk, 1), reg.clk.as_slice())
+        && (sig_of(nets, width_where(ports.d, reg.width), reg.d.as_slice())
+            && (sig_of(nets, width_where(ports.en, 1), reg.en.as_slice())
+                && (sig_of(nets, each, reg.set.as_slice())
+                    && (sig_of(nets, clr, reg.clr.as_slice())
+                        && (sig_of(nets, width_where(ports.load, 1), reg.load.as_slice())
                             && sig_of(
-                                circuit,
+                                nets,
                                 width_where(ports.load, reg.width),
                                 reg.ad.as_slice(),
                             ))))))
 }
 
 /// Whether the ports, the reset value and the start value of a register have their widths.
-pub fn register_fits(circuit: &Circuit, reg: &Reg) -> bool
-    ensures { result ≡ register_fits circuit.now reg.now }
+pub fn register_fits(nets: &[Net], reg: &Reg) -> bool
+    ensures { result ≡ register_fits nets.now reg.now }
 {
     reg.width <= WIDEST
-        && (register_has(circuit, &ports_of(reg.kind), reg)
+        && (register_has(nets, &ports_of_kind(reg.kind), reg)
             && (reg.value.width() == reg.width && reg.init.width() == reg.width))
 }

@@ -2,38 +2,38 @@
 ghost use Rattle.std.specs.Prelude.{◌≡◌, min, slice_get};
 ghost use Rattle.std.specs.List.{list_all};
 ghost use Rattle.circuit.specs.Signal.{piece_width, sig_width};
-ghost use Rattle.circuit.specs.Valid.{net_holds, piece_fits, sig_fits, sig_of, input_holds, cell_holds, register_holds, port_holds, driver_fits, drive_fits};
+ghost use Rattle.circuit.specs.Valid.{net_holds, piece_fits, sig_fits, sig_of, input_holds, cell_holds, register_holds, port_holds, driver_fits, drive_fits, drivers_of};
 
-use crate::netlist::{By, Circuit, Drive, Piece};
+use crate::netlist::{By, Circuit, Drive, Net, Piece};
 
 /// The most bits of a wire and of a port.
 pub const WIDEST: u32 = 65_536;
 
 /// Whether a net is there, and has so many bits at least.
-pub fn net_holds(circuit: &Circuit, net: u32, end: u64) -> bool
-    ensures { result ≡ net_holds circuit.now net end }
+pub fn net_holds(nets: &[Net], net: u32, end: u64) -> bool
+    ensures { result ≡ net_holds nets.now net end }
 {
-    match circuit.nets.get(net as usize) {
+    match nets.get(net as usize) {
         Some(net) => end <= u64::from(net.width),
         None => false,
     }
 }
 
-fn piece_fits(circuit: &Circuit, piece: &Piece) -> bool
-    ensures { result ≡ piece_fits circuit.now piece.now }
+fn piece_fits(nets: &[Net], piece: &Piece) -> bool
+    ensures { result ≡ piece_fits nets.now piece.now }
 {
     match piece {
         Piece::Const(_) => true,
         Piece::Part { net, at, width } => {
-            net_holds(circuit, *net, u64::from(*at) + u64::from(*width))
+            net_holds(nets, *net, u64::from(*at) + u64::from(*width))
         }
     }
 }
 
-fn pieces_fit(circuit: &Circuit, pieces: &[Piece]) -> bool
-    ensures { result ≡ list_all (piece_fits circuit.now) pieces.now }
+fn pieces_fit(nets: &[Net], pieces: &[Piece]) -> bool
+    ensures { result ≡ list_all (piece_fits nets.now) pieces.now }
 {
-    pieces.iter().all(|piece| piece_fits(circuit, piece))
+    pieces.iter().all(|piece| piece_fits(nets, piece))
 }
 
 fn piece_width(piece: &Piece) -> u32
@@ -57,24 +57,24 @@ pub fn sig_width(pieces: &[Piece]) -> u32
 }
 
 /// Whether each part of a signal lies inside its net, and the signal is not too wide.
-pub fn sig_fits(circuit: &Circuit, pieces: &[Piece]) -> bool
-    ensures { result ≡ sig_fits circuit.now pieces.now }
+pub fn sig_fits(nets: &[Net], pieces: &[Piece]) -> bool
+    ensures { result ≡ sig_fits nets.now pieces.now }
 {
-    pieces_fit(circuit, pieces) && sig_width(pieces) <= WIDEST
+    pieces_fit(nets, pieces) && sig_width(pieces) <= WIDEST
 }
 
 /// The same, and the signal has so many bits.
-pub fn sig_of(circuit: &Circuit, width: u32, pieces: &[Piece]) -> bool
-    ensures { result ≡ sig_of circuit.now width pieces.now }
+pub fn sig_of(nets: &[Net], width: u32, pieces: &[Piece]) -> bool
+    ensures { result ≡ sig_of nets.now width pieces.now }
 {
-    sig_fits(circuit, pieces) && sig_width(pieces) == width
+    sig_fits(nets, pieces) && sig_width(pieces) == width
 }
 
 fn input_holds(circuit: &Circuit, end: u64, input: u32) -> bool
-    ensures { result ≡ input_holds circuit.now end (slice_get circuit.now.inputs input) }
+    ensures { result ≡ input_holds circuit.now.nets end (slice_get circuit.now.inputs input) }
 {
     match circuit.inputs.get(input as usize) {
-        Some(net) => net_holds(circuit, *net, end),
+        Some(net) => net_holds(circuit.nets.as_slice(), *net, end),
         None => false,
     }
 }
@@ -107,13 +107,13 @@ fn port_holds(circuit: &Circuit, port: u32, end: u64, mem: u32) -> bool
 }
 
 fn driver_fits(circuit: &Circuit, width: u32, by: &By) -> bool
-    ensures { result ≡ driver_fits circuit.now width by.now }
+    ensures { result ≡ driver_fits (drivers_of circuit.now) width by.now }
 {
     let wide = u64::from(width);
     match by {
         By::Const(value) => value.width() == width,
         By::Input(n, at) => input_holds(circuit, u64::from(*at) + wide, *n),
-        By::Wire(n, at) => net_holds(circuit, *n, u64::from(*at) + wide),
+        By::Wire(n, at) => net_holds(circuit.nets.as_slice(), *n, u64::from(*at) + wide),
         By::Cell(n, at) => cell_holds(circuit, u64::from(*at) + wide, *n),
         By::Reg(n, at) => register_holds(circuit, u64::from(*at) + wide, *n),
         By::Read(m, n, at) => port_holds(circuit, *n, u64::from(*at) + wide, *m),
@@ -122,11 +122,9 @@ fn driver_fits(circuit: &Circuit, width: u32, by: &By) -> bool
 
 /// Whether a drive lies inside its net, and what drives it has its bits.
 pub fn drive_fits(circuit: &Circuit, drive: &Drive) -> bool
-    ensures { result ≡ drive_fits circuit.now drive.now }
+    ensures { result ≡ drive_fits (drivers_of circuit.now) drive.now }
 {
-    net_holds(
-        circuit,
-        drive.net,
-        u64::from(drive.at) + u64::from(drive.width),
-    ) && driver_fits(circuit, drive.width, &drive.by)
+    let end = u64::from(drive.at) + u64::from(drive.width);
+    net_holds(circuit.nets.as_slice(), drive.net, end)
+        && driver_fits(circuit, drive.width, &drive.by)
 }

@@ -10,7 +10,7 @@ use Rattle.driver_check.proofs.rows.push_piece.Goals as goal
 
 pub number-requires-clause-inside : goal.number-requires-clause-inside
 number-requires-clause-inside c =
-    let x = holds_net c.args.circuit.now c.in-Part.net (c.in-Part.at + c.in-Part.width) (sym (ap (piece_fits c.args.circuit.now) c.in-Part.is) ∙ c.requires.fits) in
+    let x = holds_net c.args.circuit.now c.in-Part.net (c.in-Part.at + c.in-Part.width) (sym (ap (piece_fits c.args.circuit.now.nets) c.in-Part.is) ∙ c.requires.fits) in
     subst (λ (nets : List Net). (n : Net) × (slice_get nets c.in-Part.net ≡ Some n) × (c.in-Part.at ≤ n.width)) (sym c.as_slice.ensures) (x.0, x.1, omega (arith, x.2))
 
 pub number-requires-clause-few : goal.number-requires-clause-few

@@ -1,6 +1,6 @@
 use Rattle.std.proofs.Common.{◌+◌, ◌≤◌, ap, ◌∙◌, arith}
 use Rattle.std.proofs.lemmas.Bool.{eq-eqb}
-use Rattle.circuit.specs.Valid.{driver_fits}
+use Rattle.circuit.specs.Valid.{driver_fits, drivers_of}
 use Rattle.circuit.specs.declared.netlist.By.TheVariants as by
 use Rattle.driver_check.proofs.Fitting.{drive_ends, moved_fits}
 use Rattle.eval_plan.proofs.roots.shifted.Goals.{in-Const+in_ok-part_of-in-Const, in-Input, in-Wire, in-Cell, in-Reg, in-Read}
@@ -36,10 +36,10 @@ returns-clause-fits c =
     let circuit = c.args.circuit.now in
     let d = c.args.drive.now in
     elim c.match-drive.branch [
-      | in-Const+in_ok-part_of-in-Const w ↦ ap (driver_fits circuit c.args.count) w.result-is ∙ eq-eqb w.in_ok-part_of-in-Const.field-0.width c.args.count w.in_ok-part_of-in-Const.ensures.width
-      | in-Input w ↦ ap (driver_fits circuit c.args.count) w.result-is ∙ moved_fits circuit d c.requires.fits (by.Input w.in-Input.n w.in-Input.at) w.in-Input.is (λ v e. cc e) c.args.offset c.args.count c.requires.within
-      | in-Wire w ↦ ap (driver_fits circuit c.args.count) w.result-is ∙ moved_fits circuit d c.requires.fits (by.Wire w.in-Wire.n w.in-Wire.at) w.in-Wire.is (λ v e. cc e) c.args.offset c.args.count c.requires.within
-      | in-Cell w ↦ ap (driver_fits circuit c.args.count) w.result-is ∙ moved_fits circuit d c.requires.fits (by.Cell w.in-Cell.n w.in-Cell.at) w.in-Cell.is (λ v e. cc e) c.args.offset c.args.count c.requires.within
-      | in-Reg w ↦ ap (driver_fits circuit c.args.count) w.result-is ∙ moved_fits circuit d c.requires.fits (by.Reg w.in-Reg.n w.in-Reg.at) w.in-Reg.is (λ v e. cc e) c.args.offset c.args.count c.requires.within
-      | in-Read w ↦ ap (driver_fits circuit c.args.count) w.result-is ∙ moved_fits circuit d c.requires.fits (by.Read w.in-Read.m w.in-Read.n w.in-Read.at) w.in-Read.is (λ v e. cc e) c.args.offset c.args.count c.requires.within
+      | in-Const+in_ok-part_of-in-Const w ↦ ap (driver_fits (drivers_of circuit) c.args.count) w.result-is ∙ eq-eqb w.in_ok-part_of-in-Const.field-0.width c.args.count w.in_ok-part_of-in-Const.ensures.width
+      | in-Input w ↦ ap (driver_fits (drivers_of circuit) c.args.count) w.result-is ∙ moved_fits circuit d c.requires.fits (by.Input w.in-Input.n w.in-Input.at) w.in-Input.is (λ v e. cc e) c.args.offset c.args.count c.requires.within
+      | in-Wire w ↦ ap (driver_fits (drivers_of circuit) c.args.count) w.result-is ∙ moved_fits circuit d c.requires.fits (by.Wire w.in-Wire.n w.in-Wire.at) w.in-Wire.is (λ v e. cc e) c.args.offset c.args.count c.requires.within
+      | in-Cell w ↦ ap (driver_fits (drivers_of circuit) c.args.count) w.result-is ∙ moved_fits circuit d c.requires.fits (by.Cell w.in-Cell.n w.in-Cell.at) w.in-Cell.is (λ v e. cc e) c.args.offset c.args.count c.requires.within
+      | in-Reg w ↦ ap (driver_fits (drivers_of circuit) c.args.count) w.result-is ∙ moved_fits circuit d c.requires.fits (by.Reg w.in-Reg.n w.in-Reg.at) w.in-Reg.is (λ v e. cc e) c.args.offset c.args.count c.requires.within
+      | in-Read w ↦ ap (driver_fits (drivers_of circuit) c.args.count) w.result-is ∙ moved_fits circuit d c.requires.fits (by.Read w.in-Read.m w.in-Read.n w.in-Read.at) w.in-Read.is (λ v e. cc e) c.args.offset c.args.count c.requires.within
     ]

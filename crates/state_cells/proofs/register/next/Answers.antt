@@ -1,7 +1,7 @@
 use Rattle.std.proofs.Common.{◌≡◌, ◌∙◌, List, true, false, if◌then◌else◌, ap, sym}
 use Rattle.circuit.specs.Next.{register_inputs, bit_by_bit, next_number}
 use Rattle.circuit.specs.Signal.{sig_number}
-use Rattle.circuit.specs.Valid.{ports_of}
+use Rattle.circuit.specs.Valid.{ports_of_kind}
 use Rattle.sim_base.specs.BitValue.{BitValue, bit_value}
 use Rattle.signal_words.specs.Values.{digits_in}
 use Rattle.state_cells.specs.Sources.{number_of, under_bits}
@@ -12,7 +12,7 @@ pub returns-then-has_bits-clause-value : goal.returns-then-has_bits-clause-value
 returns-then-has_bits-clause-value c =
     let reg = c.args.reg.now in
     let own = c.args.into.now.number in
-    let bits : (ports_of reg.kind).bits ≡ true = sym c.has_bits.ensures ∙ c.if-has_bits.true in
+    let bits : (ports_of_kind reg.kind).bits ≡ true = sym c.has_bits.ensures ∙ c.if-has_bits.true in
     let a = register_inputs (digits_in c.as_slice.result.now) (digits_in c.as_slice-nets.result.now) reg in
     let number = number_of c.source_of-source.result a own in
     c.put_under_bits.ensures.value (digits_in c.as_slice.result.now)
@@ -28,7 +28,7 @@ pub returns-else-has_bits-clause-value : goal.returns-else-has_bits-clause-value
 returns-else-has_bits-clause-value c =
     let reg = c.args.reg.now in
     let own = c.args.into.now.number in
-    let bits : (ports_of reg.kind).bits ≡ false = sym c.has_bits.ensures ∙ c.if-has_bits.false in
+    let bits : (ports_of_kind reg.kind).bits ≡ false = sym c.has_bits.ensures ∙ c.if-has_bits.false in
     let a = register_inputs (digits_in c.as_slice.result.now) (digits_in c.as_slice-nets.result.now) reg in
     let number = number_of c.source_of-source.result a own in
     c.put_whole.ensures.value (digits_in c.as_slice.result.now)

@@ -6,16 +6,16 @@ use Rattle.circuit.proofs.validity.items.slots_run.Goals as goal
 
 pub returns-then-from-before : goal.returns-then-from-before
 returns-then-from-before c =
-    slots_fail c.args.circuit.now c.args.items.now c.loop-item.item-index c.loop-item.before c.item-item.result (omega arith) c.item-item.is
+    slots_fail c.args.mems.now c.args.items.now c.loop-item.item-index c.loop-item.before c.item-item.result (omega arith) c.item-item.is
     (ne_eqb c.item-item.result.first_slot c.loop-item.before (λ e. omega (arith, e))) c.loop-item.invariant.1
 
 pub loop-item-preserved : goal.loop-item-preserved
 loop-item-preserved c = (
   omega arith,
-  ap (λ slots. slots_run c.args.circuit.now (c.loop-item.before + slots) (drop (c.loop-item.item-index + 1) c.args.items.now)) (c.from-before.ensures ∙ c.slots_of.ensures)
-      ∙ slots_pass c.args.circuit.now c.args.items.now c.loop-item.item-index c.loop-item.before c.item-item.result (omega arith) c.item-item.is
+  ap (λ slots. slots_run c.args.mems.now (c.loop-item.before + slots) (drop (c.loop-item.item-index + 1) c.args.items.now)) (c.from-before.ensures ∙ c.slots_of.ensures)
+      ∙ slots_pass c.args.mems.now c.args.items.now c.loop-item.item-index c.loop-item.before c.item-item.result (omega arith) c.item-item.is
       (eq-eqb c.item-item.result.first_slot c.loop-item.before (omega arith)) c.loop-item.invariant.1,
 )
 
 pub returns : goal.returns
-returns c = slots_all c.args.circuit.now c.args.items.now c.loop-item.item-index c.loop-item.before (omega arith) c.loop-item.invariant.1
+returns c = slots_all c.args.mems.now c.args.items.now c.loop-item.item-index c.loop-item.before (omega arith) c.loop-item.invariant.1

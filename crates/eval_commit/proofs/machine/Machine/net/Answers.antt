@@ -1,5 +1,9 @@
-use Rattle.eval_commit.proofs.Machines.{net_number, net_width}
+use Rattle.eval_commit.proofs.Machines.{net_number, net_width, net_within}
 use Rattle.eval_commit.proofs.machine.Machine.net.Goals as goal
+
+pub bounds-as_slice-n : goal.bounds-as_slice-n
+bounds-as_slice-n c =
+    net_within c.self.inside.circuit.value c.self.inside.plan c.self.inside.stuck c.self.inside.rounds c.args.self.now c.self.view_is c.self.invariant.1 c.args.n c.as_slice.result.now c.requires c.as_slice.ensures
 
 pub returns-clause-width : goal.returns-clause-width
 returns-clause-width c x at =
