@@ -14,3 +14,6 @@ mod Widths
 mod Below
 mod StateOf
 mod Shown
+mod Grown
+mod Apart
+mod FirstSlots

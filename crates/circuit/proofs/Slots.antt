@@ -29,7 +29,7 @@ items_count c [] = refl
 items_count c (x ∷ xs) =
     omega (arith, item_count c.nets c.mems x.kind, items_count c xs, sum_by-cons (λ (i : Item). length (item_widths c.nets c.mems i.kind)) x xs, sum_by-cons (λ (i : Item). slots_of c.mems i.kind) x xs)
 
-slots_count : (c : Circuit) → length (slot_widths c) ≡ slot_count c
+pub slots_count : (c : Circuit) → length (slot_widths c) ≡ slot_count c
 slots_count c =
     omega (arith, length-append (flat_map (λ (i : Item). item_widths c.nets c.mems i.kind) c.items) (map (λ _. 1) c.diags), length-flat_map (λ (i : Item). item_widths c.nets c.mems i.kind) c.items, items_count c c.items, length-map {B = ℕ} c.diags (λ _. 1))
 

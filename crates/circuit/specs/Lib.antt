@@ -11,5 +11,6 @@ pub mod Below
 pub mod StateOf
 pub mod Slots
 pub mod Store
+pub mod Built
 pub mod Fault
 pub mod Worked

@@ -2,6 +2,7 @@
 //! items, scopes and diagnostics, and the value of every bit after every sample.
 #![tactic(auto)]
 
+mod built;
 mod cell;
 mod diagnostic;
 mod fault;
@@ -16,6 +17,7 @@ mod validity;
 mod values;
 mod worked;
 
+pub use built::{law_of_growth, law_of_order, law_of_parts, law_of_slots, law_of_validity};
 pub use cell::{Cell, Op};
 pub use diagnostic::{Diag, DiagKind, Trigger};
 pub use fault::{BitAt, DesignFault, DesignKind};
