@@ -1,5 +1,5 @@
 -- The bits at which wires end.
-use Rattle.std.proofs.Common.{◌≡◌, ◌≢◌, ℕ, suc, ◌+◌, ◌-◌, ◌<◌, ◌≤◌, ◌⊎◌, List, length, set, get_or, refl, sym, ◌∙◌, ap, subst, arith, inl, inr, true, Option, Some, None, get_or-set_same, get_or-set_other}
+use Rattle.std.proofs.Common.{◌≡◌, ◌≢◌, ℕ, suc, ◌+◌, ◌-◌, ◌<◌, ◌≤◌, ◌⊎◌, List, length, set, refl, sym, ◌∙◌, ap, subst, arith, inl, inr, true, Option, Some, None, get_or-set_same, get_or-set_other}
 use Rattle.std.specs.Prelude.{slice_get, slice_index}
 use Rattle.std.proofs.lemmas.Bool.{cases_eq}
 use Rattle.circuit.specs.Valid.{is_valid}
@@ -17,7 +17,7 @@ use Rattle.driver_check.specs.Sorting.{IsSorting}
 use Rattle.driver_check.specs.Vertices.{bit_span, by_span, drive_span}
 use Rattle.driver_check.specs.declared.graph.Span.{Span}
 use Rattle.driver_check.specs.declared.sorting.Sorting.{Sorting}
-use Rattle.driver_check.proofs.Places.{read, same}
+use Rattle.driver_check.proofs.Places.{same}
 use Rattle.driver_check.proofs.Numbered.{bit_below}
 use Rattle.driver_check.proofs.Linked.{back}
 use Rattle.driver_check.proofs.Freedom.{earlier}

@@ -9,3 +9,4 @@ pub mod Noting
 pub mod Held
 pub mod Read
 pub mod Results
+pub mod Counted

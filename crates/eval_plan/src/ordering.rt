@@ -1,5 +1,5 @@
 //! The order of a circuit, or why it has none.
-ghost use Rattle.std.specs.Prelude.{◌≡◌, ◌⊎◌, ◌<◌, ◌^◌, IfErr, IfOk, MatchResult, true};
+ghost use Rattle.std.specs.Prelude.{◌≡◌, ◌⊎◌, IfErr, IfOk, MatchResult, true};
 ghost use Rattle.circuit.specs.Acyclic.{IsDrivenOnce, IsInOrder};
 ghost use Rattle.circuit.specs.Valid.{is_valid};
 ghost use Rattle.circuit.specs.declared.fault.DesignKind.TheVariants as kind;
@@ -30,15 +30,7 @@ fn no_memory(alloc: Global) -> DesignFault
     }
 }
 
-/// Whether each place of a list has a number of 32 bits.
-fn is_countable(length: usize) -> bool
-    ensures { result ≡ true → length < 2 ^ 32 }
-{
-    length <= u32::MAX as usize
-}
-
-/// The plan of a circuit that is in order. A circuit with more nodes or roots than 32 bits can number takes
-/// over a hundred gigabytes; it is answered as want of memory.
+/// The plan of a circuit that is in order.
 fn plan_of(alloc: Global, circuit: &Circuit, sorting: &Sorting) -> Result<Plan, NoMemory>
     requires valid { is_valid circuit.now ≡ true }
     requires sorting { IsSorting circuit.now sorting.now }
@@ -48,9 +40,6 @@ fn plan_of(alloc: Global, circuit: &Circuit, sorting: &Sorting) -> Result<Plan, 
     let nodes = nodes_of(alloc, circuit, sorting)?;
     let origins = origins_of(alloc, circuit, sorting)?;
     let roots = roots_of(alloc, circuit, sorting, &origins)?;
-    if !is_countable(nodes.len()) || !is_countable(roots.len()) {
-        return Err(NoMemory);
-    }
     let sources = sources_of(alloc, circuit, &sorting.parts, roots.as_slice())?;
     let readers = readers_of(alloc, circuit, sorting, nodes.as_slice(), roots.as_slice())?;
     Ok(Plan {

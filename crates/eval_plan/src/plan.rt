@@ -11,7 +11,7 @@ pub struct Plan {
     /// Each combinational cell and each read port without a clock once, behind all that it depends on.
     pub nodes: Items<Node>,
     /// What gives the bits of the nets, with the wires between left out: no root is driven by a wire, and
-    /// no two roots share a bit. A bit of no root is 0.
+    /// no two roots share a bit. A bit of no root has no driver at the end of its wires, and is 0.
     pub roots: Items<Drive>,
     /// For each source the places in `roots` of those that take from it.
     pub sources: Sources,
