@@ -17,3 +17,4 @@ mod Shown
 mod Grown
 mod Apart
 mod FirstSlots
+mod Choices

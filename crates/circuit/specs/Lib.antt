@@ -12,5 +12,6 @@ pub mod StateOf
 pub mod Slots
 pub mod Store
 pub mod Built
+pub mod Choices
 pub mod Fault
 pub mod Worked

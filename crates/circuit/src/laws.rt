@@ -1,15 +1,20 @@
 //! Laws of the meaning of circuits.
-ghost use Rattle.std.specs.Prelude.{◌≡◌, ◌≤◌, ◌<◌, ℕ, ◌-◌, List, true, Some, None, is_some, length, slice_get, slice_index, ◌^◌};
-ghost use Rattle.circuit.specs.Signal.{Digits};
-ghost use Rattle.circuit.specs.Output.{ReadsBit, output};
-ghost use Rattle.circuit.specs.Next.{next};
+ghost use Rattle.std.specs.Prelude.{◌≡◌, ◌≤◌, ◌<◌, ℕ, ◌-◌, List, true, Some, None, is_some, length, slice_get, slice_index, ◌^◌, Bool, false};
+ghost use Rattle.std.specs.Int.{bit_at};
+ghost use Rattle.sim_base.specs.BitValue.{BitValue};
+ghost use Rattle.circuit.specs.Choices.{HasEdgeAt, IsHighestWrite, IsMarked};
+ghost use Rattle.circuit.specs.Signal.{Digits, sig_number};
+ghost use Rattle.circuit.specs.Output.{ReadsBit, is_zero, lowest, output};
+ghost use Rattle.circuit.specs.Next.{highest_write, next, writes_at};
 ghost use Rattle.circuit.specs.declared.cell.Cell.{Cell};
 ghost use Rattle.circuit.specs.declared.netlist.Circuit.{Circuit};
 ghost use Rattle.circuit.specs.declared.netlist.Net.{Net};
 ghost use Rattle.circuit.specs.State.{State, same_state};
 ghost use Rattle.circuit.specs.Valuation.{IsValuation, valuation, covers, digit_at, given};
 ghost use Rattle.circuit.specs.Rounds.{FollowOn, Run, Standing, nets_after, rounds_from, run_length, settled, standing_after, standing_at, start_state};
-ghost use Rattle.circuit.specs.Shown.{fails, fires_at, shown};
+ghost use Rattle.circuit.specs.Shown.{fails, fires_at, shown, some_edge};
+ghost use Rattle.circuit.specs.declared.memory.WritePort.{WritePort};
+ghost use Rattle.circuit.specs.declared.netlist.Piece.{Piece};
 ghost use Rattle.circuit.specs.Acyclic.{IsInOrder};
 ghost use Rattle.circuit.specs.Slots.{slot_widths};
 ghost use Rattle.circuit.specs.Valid.{is_valid};
@@ -97,4 +102,31 @@ pub fn law_of_keeping()
 /// A slot shows a value of its width, at each sample; what is no slot of the circuit shows 0.
 pub fn law_of_showing()
     ensures { (run : Run) (k slot : ℕ) → shown run k slot < 2 ^ slice_index (slot_widths run.circuit) slot }
+{}
+
+/// Where the selector of a `$pmux` is not 0, the part that it takes is that of the lowest bit that is 1: this
+/// bit is 1, and all below it are 0.
+pub fn law_of_lowest()
+    ensures within { (s : BitValue) → s.number < 2 ^ s.width → is_zero s ≡ false → lowest s < s.width }
+    ensures one { (s : BitValue) → s.number < 2 ^ s.width → is_zero s ≡ false → bit_at s.number (lowest s) ≡ 1 }
+    ensures below { (s : BitValue) (j : ℕ) → s.number < 2 ^ s.width → is_zero s ≡ false → j < lowest s → bit_at s.number j ≡ 0 }
+{}
+
+/// Of several marked ports that write one bit the highest wins: the port that writes and above which no marked
+/// one does. Nothing is written exactly where no marked port writes.
+pub fn law_of_writing()
+    ensures highest { (before now : Digits) (address i : ℕ) (marks : List Bool) (ports : List WritePort) (n : ℕ) (p : WritePort)
+        → IsHighestWrite before now address i marks ports n p → highest_write before now address i marks ports ≡ Some (bit_at (sig_number now p.word) i) }
+    ensures written { (before now : Digits) (address i : ℕ) (marks : List Bool) (ports : List WritePort) (d : ℕ) → highest_write before now address i marks ports ≡ Some d
+        → (n : ℕ) × (p : WritePort) × IsHighestWrite before now address i marks ports n p × (d ≡ bit_at (sig_number now p.word) i) }
+    ensures none { (before now : Digits) (address i : ℕ) (marks : List Bool) (ports : List WritePort) → highest_write before now address i marks ports ≡ None
+        → (n : ℕ) (p : WritePort) → slice_get ports n ≡ Some p → IsMarked marks n → writes_at before now address i p ≡ false }
+    ensures unwritten { (before now : Digits) (address i : ℕ) (marks : List Bool) (ports : List WritePort)
+        → ((n : ℕ) (p : WritePort) → slice_get ports n ≡ Some p → IsMarked marks n → writes_at before now address i p ≡ false) → highest_write before now address i marks ports ≡ None }
+{}
+
+/// A trigger has an edge exactly where one of its bits has it.
+pub fn law_of_edges()
+    ensures found { (before now : Digits) (on : List Piece) (rising : List Bool) → some_edge before now on 0 rising ≡ true → (i : ℕ) × HasEdgeAt before now on rising i }
+    ensures given { (before now : Digits) (on : List Piece) (rising : List Bool) (i : ℕ) → HasEdgeAt before now on rising i → some_edge before now on 0 rising ≡ true }
 {}

@@ -23,8 +23,9 @@ pub use diagnostic::{Diag, DiagKind, Trigger};
 pub use fault::{BitAt, DesignFault, DesignKind};
 pub use item::{Item, ItemKind, Scope};
 pub use laws::{
-    law_of_diagnostics, law_of_keeping, law_of_places, law_of_reading, law_of_settling,
-    law_of_showing, law_of_succession, law_of_widths, length_of_run, one_valuation,
+    law_of_diagnostics, law_of_edges, law_of_keeping, law_of_lowest, law_of_places, law_of_reading,
+    law_of_settling, law_of_showing, law_of_succession, law_of_widths, law_of_writing,
+    length_of_run, one_valuation,
 };
 pub use memory::{Mem, ReadPort, WritePort};
 pub use netlist::{By, Circuit, Drive, Net, Piece, Sig};
