@@ -13,7 +13,7 @@ use Rattle.circuit.specs.declared.register.Reg.{Reg}
 use Rattle.circuit.specs.declared.memory.Mem.{Mem}
 use Rattle.eval_plan.specs.Roots.{AreRoots}
 use Rattle.eval_plan.specs.Sources.{AreSources, RootBy, TakesConstant, TakesInput, TakesPart, TakesRegister, port_row, read_row}
-use Rattle.eval_plan.specs.TableInvariants.{StandsBefore, StandsIn, driver_row, AreEntries, entry}
+use Rattle.eval_plan.specs.TableInvariants.{TakesFromRowBefore, TakesFromRow, driver_row, AreEntries, entry}
 use Rattle.eval_plan.specs.Tables.{Lists, table_row}
 use Rattle.driver_check.specs.Nodes.{AreParts, IsPart, part_place}
 use Rattle.eval_plan.specs.declared.entries.Entry.{Entry}
@@ -103,16 +103,16 @@ register_low c width row (by.Read m n at) fits e = cc e
 
 -- ---- one more root
 
-module _ (c : Circuit) (k : Kind) (roots : List Drive) (t : ℕ) (r : Drive) (at : slice_get roots t ≡ Some r) (es : List Entry) (are : AreEntries (StandsBefore c k roots t) es) where
-  here : (row place : ℕ) → StandsBefore c k roots (t + 1) row place → place ≡ t → driver_row c k r.by ≡ Some row
+module _ (c : Circuit) (k : Kind) (roots : List Drive) (t : ℕ) (r : Drive) (at : slice_get roots t ≡ Some r) (es : List Entry) (are : AreEntries (TakesFromRowBefore c k roots t) es) where
+  here : (row place : ℕ) → TakesFromRowBefore c k roots (t + 1) row place → place ≡ t → driver_row c k r.by ≡ Some row
   here row place h e =
       let q = h.1.0 in
       let z : q ≡ r = same roots t q r (subst (λ (n : ℕ). slice_get roots n ≡ Some q) e h.1.1) at in
       subst (λ (d : Drive). driver_row c k d.by ≡ Some row) z h.1.2
 
-  pub root_noted : (row : ℕ) → driver_row c k r.by ≡ Some row → AreEntries (StandsBefore c k roots (t + 1)) (es ++ entry row t ∷ [])
+  pub root_noted : (row : ℕ) → driver_row c k r.by ≡ Some row → AreEntries (TakesFromRowBefore c k roots (t + 1)) (es ++ entry row t ∷ [])
   root_noted row is =
-      one_more_entry (StandsBefore c k roots t) (StandsBefore c k roots (t + 1)) es (entry row t) are (λ s p h. (omega (arith, h.0), h.1)) (omega arith, (r, at, is))
+      one_more_entry (TakesFromRowBefore c k roots t) (TakesFromRowBefore c k roots (t + 1)) es (entry row t) are (λ s p h. (omega (arith, h.0), h.1)) (omega arith, (r, at, is))
       (λ s p h. elim (cases_eq p t) [
         | inl y ↦
             (let f : Some s ≡ Some row = sym (here s p h y) ∙ is in
@@ -122,9 +122,9 @@ module _ (c : Circuit) (k : Kind) (roots : List Drive) (t : ℕ) (r : Drive) (at
       ])
       (λ p h. h.0)
 
-  pub root_passed : driver_row c k r.by ≡ None → AreEntries (StandsBefore c k roots (t + 1)) es
+  pub root_passed : driver_row c k r.by ≡ None → AreEntries (TakesFromRowBefore c k roots (t + 1)) es
   root_passed none =
-      same_entries (StandsBefore c k roots t) (StandsBefore c k roots (t + 1)) (λ s p h. (omega (arith, h.0), h.1))
+      same_entries (TakesFromRowBefore c k roots t) (TakesFromRowBefore c k roots (t + 1)) (λ s p h. (omega (arith, h.0), h.1))
       (λ s p h. elim (cases_eq p t) [
         | inl y ↦ absurd (let f : None ≡ Some s = sym none ∙ here s p h y in cc f)
         | inr n ↦ (omega (arith, h.0, n), h.1)
@@ -173,9 +173,9 @@ part_taken c width row (by.Read l m i) fits e n is at =
 
 module _ (c : Circuit) (nodes : List Node) (ports : List ℕ) (parts : AreParts c nodes ports) (roots : List Drive) (are : AreRoots c roots) where
   -- the roots of a part stand in the row of its place
-  part_listed : (n : Node) → IsPart c n → (row : List ℕ) → Lists (StandsIn c kind.Part roots (part_place c n)) row → Lists (RootBy roots (TakesPart n)) row
+  part_listed : (n : Node) → IsPart c n → (row : List ℕ) → Lists (TakesFromRow c kind.Part roots (part_place c n)) row → Lists (RootBy roots (TakesPart n)) row
   part_listed n is row lists =
-      same_lists (StandsIn c kind.Part roots (part_place c n)) (RootBy roots (TakesPart n))
+      same_lists (TakesFromRow c kind.Part roots (part_place c n)) (RootBy roots (TakesPart n))
       (λ k h. (h.0, h.1, part_taken c h.0.width (part_place c n) h.0.by (root_fits c roots are k h.0 h.1) h.2 n is refl))
       (λ k h. (h.0, h.1, taken_row n h.0.by h.2)) row lists
     where
@@ -183,12 +183,12 @@ module _ (c : Circuit) (nodes : List Node) (ports : List ℕ) (parts : AreParts 
       taken_row (node.Cell m) b h = ap (driver_row c kind.Part) h.1
       taken_row (node.Read l m) b h = ap (driver_row c kind.Part) h.1
 
-  pub sources_are : (s : Sources) → s.ports.items ≡ ports → ((row : ℕ) → Lists (StandsIn c kind.Input roots row) (table_row s.inputs row)) → ((row : ℕ) → Lists (StandsIn c kind.Part roots row) (table_row s.parts row))
-      → ((row : ℕ) → Lists (StandsIn c kind.Register roots row) (table_row s.registers row)) → ((row : ℕ) → Lists (StandsIn c kind.Constant roots row) (table_row s.constants row)) → AreSources c roots s
+  pub sources_are : (s : Sources) → s.ports.items ≡ ports → ((row : ℕ) → Lists (TakesFromRow c kind.Input roots row) (table_row s.inputs row)) → ((row : ℕ) → Lists (TakesFromRow c kind.Part roots row) (table_row s.parts row))
+      → ((row : ℕ) → Lists (TakesFromRow c kind.Register roots row) (table_row s.registers row)) → ((row : ℕ) → Lists (TakesFromRow c kind.Constant roots row) (table_row s.constants row)) → AreSources c roots s
   sources_are s same_ports inputs in_parts registers constants = record {
-    inputs = λ n. same_lists (StandsIn c kind.Input roots n) (RootBy roots (TakesInput n)) (λ k h. (h.0, h.1, input_taken c n h.0.by h.2)) (λ k h. (h.0, h.1, ap (driver_row c kind.Input) h.2.1)) (table_row s.inputs n) (inputs n);
+    inputs = λ n. same_lists (TakesFromRow c kind.Input roots n) (RootBy roots (TakesInput n)) (λ k h. (h.0, h.1, input_taken c n h.0.by h.2)) (λ k h. (h.0, h.1, ap (driver_row c kind.Input) h.2.1)) (table_row s.inputs n) (inputs n);
     cells = λ n lt. part_listed (node.Cell n) lt (table_row s.parts n) (in_parts n);
-    registers = λ n. same_lists (StandsIn c kind.Register roots n) (RootBy roots (TakesRegister n)) (λ k h. (h.0, h.1, register_taken c n h.0.by h.2)) (λ k h. (h.0, h.1, ap (driver_row c kind.Register) h.2.1)) (table_row s.registers n) (registers n);
+    registers = λ n. same_lists (TakesFromRow c kind.Register roots n) (RootBy roots (TakesRegister n)) (λ k h. (h.0, h.1, register_taken c n h.0.by h.2)) (λ k h. (h.0, h.1, ap (driver_row c kind.Register) h.2.1)) (table_row s.registers n) (registers n);
     reads = λ m n x at lt.
         let below : m < length c.mems = within c.mems m x at in
         let first : ℕ = length c.cells + before read_count c.mems m in
@@ -196,6 +196,6 @@ module _ (c : Circuit) (nodes : List Node) (ports : List ℕ) (parts : AreParts 
         ap (λ (l : List ℕ). slice_get l m) same_ports ∙ got ports m 0 (omega (arith, below, parts.ports_long)) ∙ ap (λ (v : ℕ). Some v) (parts.first_port m below) in
         let place : first + n ≡ part_place c (node.Read m n) = omega arith in
         let row : read_row s m n ≡ table_row s.parts (part_place c (node.Read m n)) = ap (λ (o : Option ℕ). port_row s o n) there ∙ ap (λ (v : ℕ). table_row s.parts v) place in
-        part_listed (node.Read m n) (x, at, lt) (read_row s m n) (subst (λ (l : List ℕ). Lists (StandsIn c kind.Part roots (part_place c (node.Read m n))) l) (sym row) (in_parts (part_place c (node.Read m n))));
-    constants = same_lists (StandsIn c kind.Constant roots 0) (RootBy roots TakesConstant) (λ k h. (h.0, h.1, constant_taken c 0 h.0.by h.2)) (λ k h. (h.0, h.1, ap (driver_row c kind.Constant) h.2.1)) (table_row s.constants 0) (constants 0);
+        part_listed (node.Read m n) (x, at, lt) (read_row s m n) (subst (λ (l : List ℕ). Lists (TakesFromRow c kind.Part roots (part_place c (node.Read m n))) l) (sym row) (in_parts (part_place c (node.Read m n))));
+    constants = same_lists (TakesFromRow c kind.Constant roots 0) (RootBy roots TakesConstant) (λ k h. (h.0, h.1, constant_taken c 0 h.0.by h.2)) (λ k h. (h.0, h.1, ap (driver_row c kind.Constant) h.2.1)) (table_row s.constants 0) (constants 0);
   }

@@ -4,7 +4,7 @@ ghost use Rattle.circuit.specs.Valid.{driver_fits, drivers_of, is_valid};
 ghost use Rattle.circuit.specs.declared.netlist.By.{By as TheBy};
 ghost use Rattle.eval_plan.specs.Roots.{AreRoots};
 ghost use Rattle.eval_plan.specs.Sources.{AreSources};
-ghost use Rattle.eval_plan.specs.TableInvariants.{StandsBefore, StandsIn, driver_row, AreEntries};
+ghost use Rattle.eval_plan.specs.TableInvariants.{TakesFromRowBefore, TakesFromRow, driver_row, AreEntries};
 ghost use Rattle.eval_plan.specs.Tables.{Lists, table_row};
 ghost use Rattle.driver_check.specs.Nodes.{AreParts};
 
@@ -59,8 +59,8 @@ fn push_root(
     requires roots { AreRoots circuit.now roots.now }
     requires there { place < length roots.now }
     requires few { length roots.now < 2 ^ 32 }
-    requires entries { AreEntries (StandsBefore circuit.now kind roots.now place) entries.old.items }
-    ensures { OnOk result (AreEntries (StandsBefore circuit.now kind roots.now (place + 1)) entries.new.items) }
+    requires entries { AreEntries (TakesFromRowBefore circuit.now kind roots.now place) entries.old.items }
+    ensures { OnOk result (AreEntries (TakesFromRowBefore circuit.now kind roots.now (place + 1)) entries.new.items) }
 {
     let root = &roots[place];
     if let Some(row) = driver_row(circuit, parts, kind, root.width, &root.by) {
@@ -83,7 +83,7 @@ fn table_by(
     requires parts { AreParts circuit.now parts.now.nodes.items parts.now.ports.items }
     requires roots { AreRoots circuit.now roots.now }
     requires few { length roots.now < 2 ^ 32 }
-    ensures { IfOk result (λ t. (row : ℕ) → Lists (StandsIn circuit.now kind roots.now row) (table_row t row)) }
+    ensures { IfOk result (λ t. (row : ℕ) → Lists (TakesFromRow circuit.now kind roots.now row) (table_row t row)) }
 {
     let mut entries = Vec::new(alloc);
     for place in 0..roots.len() {
