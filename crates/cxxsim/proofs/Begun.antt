@@ -2,8 +2,7 @@
 use Rattle.std.proofs.Common.{◌≡◌, ℕ, List, [], ◌++◌, take, drop, Option, Some, None, refl, sym, ◌∙◌, ap, append_assoc}
 use Rattle.std.proofs.lemmas.List.{append-nil, take-append-drop}
 use Rattle.std.specs.Io.KnownBytes.{append_known}
-use Rattle.outside.specs.Sink.{TookPart}
-use Rattle.solo_session.specs.Solo.{IsSentInPart}
+use Rattle.outside.specs.Sink.{TookPart, IsSentInPart}
 use Rattle.cxxsim.specs.Trace.{HasLeft}
 
 append_known-nothing : (o : Option (List ℕ)) → append_known o [] ≡ o

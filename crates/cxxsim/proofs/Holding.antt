@@ -15,18 +15,18 @@ use Rattle.solo_session.proofs.Leaving.{broken_wanting, whole_wanting}
 use Rattle.cxxsim.specs.Outside.{Told}
 use Rattle.cxxsim.specs.Solo.{IsHeld, IsSentAtMost}
 
-ended_legal : (start : Start) (left held : Option (List ℕ)) (history : List Entry) (ends : Ending) → IsEnded start left held history ends → Legal (facts_of (run_of start.run)) history
+ended_legal : (start : Start) (left held : Option (List ℕ)) (history : List Entry) (ends : Ending) → IsEnded start left held history ends → Legal (facts_of start.run) history
 ended_legal start left held history ending.Served is = is.by.session.legal
 ended_legal start left held history ending.Limit is = is.by.session.legal
 ended_legal start left held history ending.InputFailed is = is.by.0.session.legal
-ended_legal start left held history ending.OutputFailed is = is.by.session.legal
+ended_legal start left held history ending.OutputFailed is = is.by.0.session.legal
 
 pub served_is_held : (run : Sampled) (input out : Told) (history : List Entry) (ends : Ending) → 1 ≤ run_length (run_of run)
-    → IsEnded (record { run = run; left = input.before; held = out.before }) input.now out.now history ends → IsCause ends input.faults input.faults_now out.faults out.faults_now
+    → IsEnded (record { run = run_of run; left = input.before; held = out.before }) input.now out.now history ends → IsCause ends input.faults input.faults_now out.faults out.faults_now
     → IsHeld run input out history ends
 served_is_held run input out history ends settled is cause = record {
   either = inr (record { settled = settled; ended = is });
-  legal = ended_legal (record { run = run; left = input.before; held = out.before }) input.now out.now history ends is;
+  legal = ended_legal (record { run = run_of run; left = input.before; held = out.before }) input.now out.now history ends is;
   cause = cause;
 }
 
@@ -50,15 +50,15 @@ unserved_is_held run input out history short some is quiet_input quiet_out input
 }
 
 ended_sends : (start : Start) (left held : Option (List ℕ)) (history : List Entry) (ends : Ending) → IsEnded start left held history ends → IsWanting start held
-ended_sends start left held history ending.Served is = whole_wanting start left held history ending.Served is.by
-ended_sends start left held history ending.Limit is = whole_wanting start left held history ending.Limit is.by
+ended_sends start left held history ending.Served is = whole_wanting start left held history is.given ending.Served is.by
+ended_sends start left held history ending.Limit is = whole_wanting start left held history is.given ending.Limit is.by
 ended_sends start left held history ending.InputFailed is = broken_wanting start held history is.by.0
-ended_sends start left held history ending.OutputFailed is = broken_wanting start held history is.by
+ended_sends start left held history ending.OutputFailed is = broken_wanting start held history is.by.0
 
 -- what a session sent is a beginning of what it is to send
 pub held_sends : (run : Sampled) (input out : Told) (history : List Entry) (ends : Ending) → IsHeld run input out history ends → IsSentAtMost run input out
 held_sends run input out history ends held =
     elim held.either [
       | inl unserved ↦ inl unserved.quiet_out
-      | inr served ↦ inr (ended_sends (record { run = run; left = input.before; held = out.before }) input.now out.now history ends served.ended)
+      | inr served ↦ inr (ended_sends (record { run = run_of run; left = input.before; held = out.before }) input.now out.now history ends served.ended)
     ]

@@ -4,7 +4,7 @@ use Rattle.std.specs.Prelude.{is_some, nat_lt}
 use Rattle.std.proofs.lemmas.Bool.{cases_Bool, cases_lt, cond-true, cond-false, false≢true}
 use Rattle.std.proofs.lemmas.List.{append-nil}
 use Rattle.circuit.specs.Rounds.{Run, Standing, run_length, settled_samples, standing_after, start}
-use Rattle.solo_session.specs.Solo.{IsSentInPart}
+use Rattle.outside.specs.Sink.{IsSentInPart}
 use Rattle.cxxsim.specs.Trace.{HasLeft}
 use Rattle.cxxsim.specs.TraceText.{header, last_line, run_text, sample_line, sample_lines, trace_text}
 use Rattle.cxxsim.proofs.Begun.{begun_longer, left_more, left_then}

@@ -6,7 +6,7 @@ use Rattle.circuit.specs.declared.netlist.Circuit.{Circuit}
 use Rattle.flat_run.specs.Run.{run_under}
 use Rattle.flat_stimulus.specs.Block.{Block, sample_count}
 use Rattle.outside.specs.Faults.{Rose}
-use Rattle.solo_session.specs.Solo.{IsSentInPart}
+use Rattle.outside.specs.Sink.{IsSentInPart}
 use Rattle.solo_session.specs.declared.solo.Ending.{Ending}
 use Rattle.solo_session.specs.declared.solo.Ending.TheVariants as ending
 use Rattle.cxxsim.specs.Answers.{IsClosed, IsDoneBy, IsFaultOf, IsIdle, IsMisused, IsUntraced, IsWantingBy, Task, task}

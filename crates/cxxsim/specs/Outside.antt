@@ -3,7 +3,7 @@ use Rattle.std.specs.Prelude.{◌≡◌, ℕ, ◌≤◌, List, Bool, true, false
 use Rattle.std.specs.Io.KnownBytes.{append_known}
 use Rattle.outside.specs.Faults.{Rose}
 use Rattle.outside.specs.Shelf.{File, Missing}
-use Rattle.solo_session.specs.Solo.{IsSentInPart}
+use Rattle.outside.specs.Sink.{IsSentInPart}
 
 -- a source or a sink: the bytes that it has left or holds, where it tells them, and how often it failed
 pub record Told : Type 0 where

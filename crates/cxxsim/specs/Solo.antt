@@ -29,7 +29,7 @@ pub record IsUnserved (run : Sampled) (input out : Told) (history : List Entry) 
 -- sample 0 settles, and the client was served
 pub record IsServed (run : Sampled) (input out : Told) (history : List Entry) (ends : Ending) : Type 0 where
   pub settled : 1 ≤ run_length (run_of run)
-  pub ended : IsEnded (record { run = run; left = input.before; held = out.before }) input.now out.now history ends
+  pub ended : IsEnded (record { run = run_of run; left = input.before; held = out.before }) input.now out.now history ends
 
 -- the history of a session, and what was read and sent, by how it ended
 pub record IsHeld (run : Sampled) (input out : Told) (history : List Entry) (ends : Ending) : Type 0 where
@@ -39,7 +39,7 @@ pub record IsHeld (run : Sampled) (input out : Told) (history : List Entry) (end
 
 -- after want of memory: nothing was sent, or a beginning of what the history of the client's bytes says
 abbrev pub IsSentAtMost : Sampled → Told → Told → Type 0
-IsSentAtMost run input out = IsQuiet out ⊎ IsWanting (record { run = run; left = input.before; held = out.before }) out.now
+IsSentAtMost run input out = IsQuiet out ⊎ IsWanting (record { run = run_of run; left = input.before; held = out.before }) out.now
 
 -- the log has got the text of the history of a session
 pub record IsSessionOf (run : Sampled) (input out log : Told) (closed : Closed) : Type 0 where

@@ -9,7 +9,7 @@ use Rattle.flat_run.specs.Run.{run_under}
 use Rattle.flat_stimulus.specs.Block.{Block, sample_count}
 use Rattle.flat_stimulus.specs.Text.{block_of}
 use Rattle.outside.specs.Shelf.{File, IsOf, IsLonger}
-use Rattle.solo_session.specs.Solo.{IsSentInPart}
+use Rattle.outside.specs.Sink.{IsSentInPart}
 use Rattle.cxxsim.specs.TraceText.{run_text}
 use Rattle.cxxsim.specs.declared.refusal.Refusal.{Refusal}
 use Rattle.cxxsim.specs.declared.refusal.Refusal.TheVariants as refusal

@@ -25,15 +25,15 @@ pub struct Closed {
 /// Opens a session and serves its client, where sample 0 settles.
 fn hold<I: Source, O: Sink>(
     alloc: Global,
-    session: &mut Session,
+    session: &mut Session<FlatRun>,
     input: &mut I,
     out: &mut O,
 ) -> Result<Ending, NoMemory>
     requires history { session.old.history ≡ [] }
     requires greeted { session.old.greeted ≡ false }
-    requires some { 1 ≤ (run_of session.old.run).count }
-    ensures held { IfOk result (λ ending. IsHeld session.old.run (told (I.left input.old) (I.left input.new) (I.faults input.old) (I.faults input.new)) (told (O.held out.old) (O.held out.new) (O.faults out.old) (O.faults out.new)) session.new.history ending) }
-    ensures wanting { OnErr result (IsSentAtMost session.old.run (told (I.left input.old) (I.left input.new) (I.faults input.old) (I.faults input.new)) (told (O.held out.old) (O.held out.new) (O.faults out.old) (O.faults out.new))) }
+    requires some { 1 ≤ (run_of session.old.samples).count }
+    ensures held { IfOk result (λ ending. IsHeld session.old.samples (told (I.left input.old) (I.left input.new) (I.faults input.old) (I.faults input.new)) (told (O.held out.old) (O.held out.new) (O.faults out.old) (O.faults out.new)) session.new.history ending) }
+    ensures wanting { OnErr result (IsSentAtMost session.old.samples (told (I.left input.old) (I.left input.new) (I.faults input.old) (I.faults input.new)) (told (O.held out.old) (O.held out.new) (O.faults out.old) (O.faults out.new))) }
     ensures input_later { I.faults input.old ≤ I.faults input.new }
     ensures out_later { O.faults out.old ≤ O.faults out.new }
 {

@@ -7,7 +7,7 @@ ghost use Rattle.flat_rounds.specs.Fits.{AreInputs, IsStandingOf};
 ghost use Rattle.flat_stimulus.specs.Block.{row_of, sample_count};
 ghost use Rattle.outside.specs.Faults.{Rose};
 ghost use Rattle.flat_run.specs.Run.{AreSamples, run_under};
-ghost use Rattle.solo_session.specs.Solo.{IsSentInPart};
+ghost use Rattle.outside.specs.Sink.{IsSentInPart};
 ghost use Rattle.cxxsim.specs.Trace.{HasLeft};
 ghost use Rattle.cxxsim.specs.declared.tracing.TraceFault.TheVariants as fault;
 ghost use Rattle.cxxsim.specs.TraceText.{header, run_text, sample_line, sample_lines};

@@ -1,5 +1,5 @@
 -- A run goes on by a sample, or ends there.
-use Rattle.std.proofs.Common.{◌≡◌, ℕ, suc, ◌+◌, ◌<◌, ◌≤◌, true, false, Option, Some, None, sym, ◌∙◌, ap, arith, add-one, inl, inr, List, min}
+use Rattle.std.proofs.Common.{◌≡◌, ℕ, suc, ◌+◌, ◌≤◌, Option, Some, sym, ◌∙◌, ap, add-one, inl, inr, List}
 use Rattle.std.specs.Prelude.{is_some, option_and_then}
 use Rattle.std.proofs.lemmas.Bool.{cases_lt, false≢true}
 use Rattle.circuit.specs.Rounds.{Run, Standing, run_length, settled, standing_after, start}

@@ -8,6 +8,7 @@ ghost use Rattle.flat_stimulus.specs.Until.{samples_until};
 use crate::progress::Progress;
 use circuit::Circuit;
 use flat_stimulus::FlatStimulus;
+use hall_core::Followed;
 use sim_base::{NoMemory, Time};
 use std::alloc::Global;
 use std::marker::Model;
@@ -79,5 +80,28 @@ impl FlatRun {
         ensures most { result ≤ (run_of self.now).count }
     {
         self.stimulus.count_until(time)
+    }
+}
+
+impl Followed for FlatRun {
+    ghost use Rattle.flat_run.specs.Run.{run_of};
+
+    ghost run = { run_of };
+
+    fn count(&self) -> u64 {
+        FlatRun::count(self)
+    }
+
+    fn reach(&mut self, want: u64) -> u64 {
+        FlatRun::reach(self, want)
+    }
+
+    fn time(&self, k: u64) -> Time {
+        FlatRun::time(self, k)
+    }
+
+    #[tactic(auto, using(crate::proofs::Until::same_until))]
+    fn count_until(&self, time: Time) -> u64 {
+        FlatRun::count_until(self, time)
     }
 }

@@ -1,2 +1,3 @@
 pub mod PacketLaws
 mod Search
+pub mod Streams

@@ -1,5 +1,5 @@
 -- The packets of a stream of bytes, each of which ends in a zero byte.
-use Rattle.std.specs.Prelude.{◌≡◌, ℕ, ◌==◌, nat_lt, List, [], ◌∷◌, ◌++◌, length, if◌then◌else◌, Option, Some, None}
+use Rattle.std.specs.Prelude.{Bool, true, false, ◌≡◌, ℕ, ◌==◌, nat_lt, List, [], ◌∷◌, ◌++◌, length, if◌then◌else◌, Option, Some, None}
 use Rattle.frame_zero.specs.declared.Frame.{Frame}
 use Rattle.frame_zero.specs.declared.Frame.TheVariants.{Whole, TooLong, NotYet}
 
@@ -47,3 +47,15 @@ abbrev pub Leaves : Frame → List ℕ → List ℕ → Type 0
 Leaves (Whole packet) old new = (old ≡ packet.now ++ 0 ∷ new) × (packets old ≡ whole packet.now ∷ packets new)
 Leaves TooLong old new = new ≡ old
 Leaves NotYet old new = new ≡ old
+
+-- the packets of a stream that are whole
+unfoldable pub wholes : List Packet → List (List ℕ)
+wholes [] = []
+wholes (whole packet ∷ more) = packet ∷ wholes more
+wholes (too_long ∷ more) = wholes more
+
+-- some part of a stream is too long to be a packet
+unfoldable pub has_too_long : List Packet → Bool
+has_too_long [] = false
+has_too_long (whole packet ∷ more) = has_too_long more
+has_too_long (too_long ∷ more) = true

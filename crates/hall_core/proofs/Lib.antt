@@ -3,3 +3,5 @@ pub mod Progress
 pub mod Texts
 pub mod Beginnings
 pub mod Clients
+pub mod Ahead
+pub mod Batches

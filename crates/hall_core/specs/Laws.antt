@@ -1,11 +1,12 @@
 -- The words of the laws.
-use Rattle.std.specs.Prelude.{◌≡◌, ℕ, ◌<◌, ◌^◌, ◌==◌, Bool, true, false, not, ◌&&◌, ◌⊎◌, List, [], ◌∷◌, ◌++◌}
-use Rattle.std.specs.List.{list_any}
+use Rattle.std.specs.Prelude.{◌≡◌, ℕ, ◌<◌, ◌≤◌, ◌^◌, ◌==◌, Bool, true, false, not, ◌&&◌, ◌⊎◌, List, [], ◌∷◌, ◌++◌}
+use Rattle.std.specs.List.{count_by, list_any}
 use Rattle.hall_core.specs.declared.entry.Entry.{Entry}
 use Rattle.hall_core.specs.declared.entry.Entry.TheVariants as entry
 use Rattle.hall_core.specs.declared.entry.Act.{Act}
 use Rattle.hall_core.specs.declared.entry.Act.TheVariants as act
 use Rattle.hall_core.specs.Legal.{RunFacts, Next}
+use Rattle.hall_core.specs.Replay.{State}
 
 -- the histories that steps from the empty one lead to, of which each adds an entry that may come next
 pub data Taken (run : RunFacts) : List Entry → Type 0 where
@@ -77,3 +78,20 @@ closes c entry.End = false
 -- the client was opened, and not closed
 abbrev pub is_there : List Entry → ℕ → Bool
 is_there history c = list_any (opens c) history && not (list_any (closes c) history)
+
+-- the entry opens a client
+abbrev pub is_opening : Entry → Bool
+is_opening (entry.Open c) = true
+is_opening (entry.Packet c what) = false
+is_opening (entry.Record m hit) = false
+is_opening entry.Unsettled = false
+is_opening (entry.Close c why) = false
+is_opening entry.End = false
+
+-- how many clients were opened
+abbrev pub opened : List Entry → ℕ
+opened history = count_by is_opening history
+
+-- a goal is not reached yet, there are so many samples, and none was found not to settle
+abbrev pub LiesAhead : RunFacts → State → ℕ → Type 0
+LiesAhead run s g = (s.n < g) × (g ≤ run.count) × (s.unsettled ≡ false)

@@ -4,3 +4,6 @@ pub mod Facts
 pub mod Laws
 pub mod LogText
 pub mod Hall
+pub mod Moments
+pub mod Batches
+pub mod Samples

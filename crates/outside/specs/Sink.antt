@@ -1,5 +1,5 @@
 -- What a write to a sink says.
-use Rattle.std.specs.Prelude.{◌≡◌, ⊤, ℕ, ◌<◌, ◌≤◌, List, length, take, Option}
+use Rattle.std.specs.Prelude.{◌≡◌, ⊤, ℕ, ◌<◌, ◌≤◌, List, ◌++◌, length, take, Option}
 use Rattle.std.specs.Io.KnownBytes.{append_known}
 use Rattle.outside.specs.Faults.{Rose}
 use Rattle.outside.specs.declared.sink.Put.{Put}
@@ -25,3 +25,10 @@ pub record TookPart (before now : Option (List ℕ)) (bytes : List ℕ) : Type 0
   pub count : ℕ
   pub not_all : count < length bytes
   pub holds : now ≡ append_known before (take count bytes)
+
+-- a beginning of the bytes came behind what was held: nothing, a part or all of them
+pub record IsSentInPart (before now : Option (List ℕ)) (bytes : List ℕ) : Type 0 where
+  pub sent : List ℕ
+  pub more : List ℕ
+  pub parts : bytes ≡ sent ++ more
+  pub holds : now ≡ append_known before sent

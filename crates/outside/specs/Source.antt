@@ -1,5 +1,5 @@
 -- What a read of a source says.
-use Rattle.std.specs.Prelude.{◌≡◌, ⊤, ℕ, ◌<◌, ◌≤◌, List, take, Option}
+use Rattle.std.specs.Prelude.{◌≡◌, ⊤, ℕ, ◌<◌, ◌≤◌, List, take, Option, Some, None}
 use Rattle.std.specs.Io.KnownBytes.{IsAtEnd, prepend_known}
 use Rattle.outside.specs.Faults.{Rose}
 use Rattle.outside.specs.declared.source.Got.{Got}
@@ -23,3 +23,8 @@ abbrev pub SourceCause : ℕ → ℕ → Got → Type 0
 SourceCause before now (got.Bytes n) = now ≡ before
 SourceCause before now got.End = now ≡ before
 SourceCause before now got.Failed = (before ≤ now) × Rose before now
+
+-- these may be all bytes of an input: where it tells what it has left, they are these
+abbrev pub IsInput : Option (List ℕ) → List ℕ → Type 0
+IsInput None bytes = ⊤
+IsInput (Some left) bytes = bytes ≡ left

@@ -17,7 +17,7 @@ use Rattle.proto_replies.specs.declared.answer.Cause.{Cause}
 use Rattle.proto_replies.specs.declared.answer.Cause.TheVariants as cause
 use Rattle.proto_replies.specs.declared.answer.ErrorKind.{ErrorKind}
 use Rattle.proto_replies.specs.declared.answer.ErrorKind.TheVariants as error
-use Rattle.proto_replies.specs.Data.{AreTimes, IsNoneOrTime, answer_data, next_at, text_at, texts}
+use Rattle.proto_replies.specs.Data.{AreTimes, IsNoneOrTime, answer_data, next_at, text_at, texts, packet_text}
 use Rattle.proto_replies.specs.Text.{answer_text, greeting_text, next_text, state_word}
 
 -- digits and dots
@@ -134,3 +134,8 @@ answer-json (answer.Status latest how next) times = status-json latest how next 
 answer-json (answer.Paused why time) times = paused-json time times why
 answer-json (answer.Finished time) times = finished-json time times
 answer-json (answer.Error kind) times = error-json kind
+
+-- the pieces of an answer, and the zero byte, are its packet
+pub packet_json : (a : Answer) (text : List ℕ) → AreTimes a → text ≡ answer_text a → text ++ 0 ∷ [] ≡ packet_text a
+unfolding packet_text
+packet_json a text times is = ap (λ z. z ++ 0 ∷ []) (is ∙ answer-json a times)

@@ -1,6 +1,7 @@
 -- What the text of an answer says, as JSON: its keys and their values.
-use Rattle.std.specs.Prelude.{⊤, ℕ, ◌≤◌, List, [], ◌∷◌, Option, Some, None, codes}
+use Rattle.std.specs.Prelude.{⊤, ℕ, ◌≤◌, List, [], ◌∷◌, ◌++◌, Option, Some, None, codes}
 use Rattle.serde_json.specs.Data.{Data, number, string, array, object, unsigned, Items, no_items, item, Members, no_members, member}
+use Rattle.serde_json.specs.Written.{compact_text}
 use Rattle.sim_base.specs.TimeText.{largest_time, time_text}
 use Rattle.proto_replies.specs.Text.{cause_word, error_message, error_word, state_word}
 use Rattle.proto_replies.specs.declared.answer.Answer.{Answer}
@@ -60,6 +61,10 @@ answer_members (answer.Error kind) =
 
 abbrev pub answer_data : Answer → Data
 answer_data a = object (answer_members a)
+
+-- the packet of an answer: its keys and their values as JSON with no blanks, and the zero byte that ends a packet
+unfoldable pub packet_text : Answer → List ℕ
+packet_text a = compact_text (answer_data a) ++ 0 ∷ []
 
 -- the times in an answer are times
 abbrev pub IsNoneOrTime : Option ℕ → Type 0

@@ -1,5 +1,5 @@
 -- The text of an answer: JSON with no blanks and sorted keys.
-use Rattle.std.specs.Prelude.{ℕ, List, [], ◌∷◌, ◌++◌, Option, Some, None, codes}
+use Rattle.std.specs.Prelude.{ℕ, List, [], ◌++◌, Option, Some, None, codes}
 use Rattle.sim_base.specs.TimeText.{time_text}
 use Rattle.proto_replies.specs.declared.answer.Answer.{Answer}
 use Rattle.proto_replies.specs.declared.answer.Answer.TheVariants as answer
@@ -57,6 +57,7 @@ next_text (Some time) = codes ",\"next_sample_time\":\"" ++ time_text time ++ co
 abbrev pub greeting_text : List ℕ
 greeting_text = codes "{\"commands\":[\"list_scopes\",\"list_items\",\"reference_items\",\"query_interval\",\"get_simulation_status\",\"run_simulation\",\"pause_simulation\"],\"events\":[\"simulation_paused\",\"simulation_finished\"],\"features\":{\"item_values_encoding\":[\"base64(u32)\"]},\"type\":\"greeting\",\"version\":0}"
 
+-- the text of an answer, piece by piece
 abbrev pub answer_text : Answer → List ℕ
 answer_text answer.Greeting = greeting_text
 answer_text answer.RunSimulation = codes "{\"command\":\"run_simulation\",\"type\":\"response\"}"
@@ -68,7 +69,3 @@ answer_text (answer.Finished time) =
     codes "{\"event\":\"simulation_finished\",\"time\":\"" ++ time_text time ++ codes "\",\"type\":\"event\"}"
 answer_text (answer.Error kind) =
     codes "{\"error\":\"" ++ error_word kind ++ codes "\",\"message\":\"" ++ error_message kind ++ codes "\",\"type\":\"error\"}"
-
--- a zero byte ends a packet
-abbrev pub packet_text : Answer → List ℕ
-packet_text a = answer_text a ++ 0 ∷ []

@@ -2,7 +2,8 @@
 ghost use Rattle.std.specs.Prelude.{◌≡◌, ◌++◌, IfOk, OnOk};
 ghost use Rattle.sim_base.specs.TimeText.{time_text};
 ghost use Rattle.proto_replies.specs.declared.answer.Answer.TheVariants as answers;
-ghost use Rattle.proto_replies.specs.Text.{answer_text, cause_word, error_message, error_word, next_text, packet_text, state_word};
+ghost use Rattle.proto_replies.specs.Data.{AreTimes, packet_text};
+ghost use Rattle.proto_replies.specs.Text.{answer_text, cause_word, error_message, error_word, next_text, state_word};
 
 use crate::answer::{Answer, Cause, ErrorKind, RunState};
 use sim_base::{NoMemory, Time};
@@ -13,13 +14,33 @@ const TIME_BYTES: usize = 26;
 
 /// The packet of an answer: its JSON text, with no blanks and sorted keys, and a zero byte. Times are in
 /// seconds with 15 digits behind the dot.
+#[tactic(auto, using(crate::proofs::Plain::packet_json))]
 pub fn reply(alloc: Global, answer: &Answer) -> Result<Vec<u8>, NoMemory>
     ensures { IfOk result (λ text. text.items ≡ packet_text answer.now) }
 {
+    know_times(answer);
     let mut text = Vec::new(alloc);
     push_answer(&mut text, answer)?;
     text.push(0)?;
     Ok(text)
+}
+
+/// Tells the proof that each time of an answer is one that a `Time` can be. It does nothing.
+fn know_times(answer: &Answer)
+    ensures { AreTimes answer.now }
+{
+    match *answer {
+        Answer::Status { latest, next, .. } => {
+            let _ = latest.femtoseconds();
+            if let Some(later) = next {
+                let _ = later.femtoseconds();
+            }
+        }
+        Answer::Paused { time, .. } | Answer::Finished { time } => {
+            let _ = time.femtoseconds();
+        }
+        Answer::Greeting | Answer::RunSimulation | Answer::Error(_) => {}
+    }
 }
 
 fn push_answer(text: &mut Vec<u8>, answer: &Answer) -> Result<(), NoMemory>

@@ -1,6 +1,8 @@
 use hall_core::{
-    Act, Entry, Goal, Hall, History, Why, law_of_beginnings, law_of_clients, law_of_first_entries,
-    law_of_goals, law_of_hold, law_of_logs, law_of_progress, law_of_runs, law_of_steps, log_text,
+    Act, Entry, Goal, Hall, History, Why, law_of_batches, law_of_beginnings, law_of_clients,
+    law_of_first_entries, law_of_goals, law_of_goals_ahead, law_of_hold, law_of_logs,
+    law_of_moments, law_of_openings, law_of_progress, law_of_records, law_of_runs, law_of_steps,
+    log_text,
 };
 use sim_base::Kinds;
 use std::alloc::Global;
@@ -394,13 +396,18 @@ fn steps_that_room_was_made_for(rt: HostRuntime) -> Result<(), Fail> {
         hall.step(entry)?;
     }
     assert_eq!(rt; hall.history().as_slice().len(), 101);
+    law_of_batches();
     law_of_beginnings();
     law_of_clients();
     law_of_first_entries();
     law_of_goals();
+    law_of_goals_ahead();
     law_of_hold();
     law_of_logs();
+    law_of_moments();
+    law_of_openings();
     law_of_progress();
+    law_of_records();
     law_of_runs();
     law_of_steps();
     Ok(())

@@ -10,8 +10,9 @@ use flat_stimulus::read_stimulus;
 use flat_text::{FlatFault, read_module};
 use frame_zero::{Framer, MAX_PACKET};
 use hall_core::{Why, log_text};
+use session_core::{law_of_entries, law_of_isolation, law_of_more_packets, law_of_openings};
 use sim_base::NoMemory;
-use solo_session::{Session, law_of_entries, law_of_isolation, law_of_pace};
+use solo_session::{Session, law_of_pace};
 use std::alloc::Global;
 use std::process::Abort;
 use std::test::Fail;
@@ -228,18 +229,18 @@ fn run(alloc: Global, case: &Case) -> Result<FlatRun, FlatFault> {
     Ok(FlatRun::new(alloc, circuit, stimulus)?)
 }
 
-fn started(alloc: Global, run: FlatRun) -> Result<Session, NoMemory>
+fn started(alloc: Global, run: FlatRun) -> Result<Session<FlatRun>, NoMemory>
     ensures new { IfOk result (λ s. s.history ≡ []) }
-    ensures some { IfOk result (λ s. 1 ≤ (run_of s.run).count) }
+    ensures some { IfOk result (λ s. 1 ≤ (run_of s.samples).count) }
 {
     let _count = run.count();
     Session::new(alloc, run)
 }
 
-fn open(session: &mut Session) -> Result<bool, NoMemory>
+fn open(session: &mut Session<FlatRun>) -> Result<bool, NoMemory>
     requires new { session.old.history ≡ [] }
-    requires some { 1 ≤ (run_of session.old.run).count }
-    ensures { result ≡ Ok true → IsServing (run_of session.new.run) (replay session.new.history) }
+    requires some { 1 ≤ (run_of session.old.samples).count }
+    ensures { result ≡ Ok true → IsServing (run_of session.new.samples) (replay session.new.history) }
 {
     session.open()
 }
@@ -247,13 +248,13 @@ fn open(session: &mut Session) -> Result<bool, NoMemory>
 /// Serves bytes that come in two pieces, and answers whether a part of them is too long.
 fn serve(
     alloc: Global,
-    session: &mut Session,
+    session: &mut Session<FlatRun>,
     first: &[u8],
     second: &[u8],
     text: &mut Vec<u8>,
 ) -> Result<bool, NoMemory>
-    requires { IsServing (run_of session.old.run) (replay session.old.history) }
-    ensures { OnOk result (IsServing (run_of session.new.run) (replay session.new.history)) }
+    requires { IsServing (run_of session.old.samples) (replay session.old.history) }
+    ensures { OnOk result (IsServing (run_of session.new.samples) (replay session.new.history)) }
 {
     let mut framer = Framer::new(alloc)?;
     framer.feed(first)?;
@@ -263,9 +264,13 @@ fn serve(
     Ok(too_long)
 }
 
-fn run_out(alloc: Global, session: &mut Session, text: &mut Vec<u8>) -> Result<(), NoMemory>
-    requires { IsServing (run_of session.old.run) (replay session.old.history) }
-    ensures { OnOk result (IsServing (run_of session.new.run) (replay session.new.history)) }
+fn run_out(
+    alloc: Global,
+    session: &mut Session<FlatRun>,
+    text: &mut Vec<u8>,
+) -> Result<(), NoMemory>
+    requires { IsServing (run_of session.old.samples) (replay session.old.history) }
+    ensures { OnOk result (IsServing (run_of session.new.samples) (replay session.new.history)) }
 {
     session.run_out(alloc, text)?;
     Ok(())
@@ -273,11 +278,11 @@ fn run_out(alloc: Global, session: &mut Session, text: &mut Vec<u8>) -> Result<(
 
 fn close(
     alloc: Global,
-    session: &mut Session,
+    session: &mut Session<FlatRun>,
     too_long: bool,
     text: &mut Vec<u8>,
 ) -> Result<(), NoMemory>
-    requires { IsServing (run_of session.old.run) (replay session.old.history) }
+    requires { IsServing (run_of session.old.samples) (replay session.old.history) }
 {
     if too_long {
         return session.close(alloc, Why::TooLong, text);
@@ -552,6 +557,8 @@ fn a_packet_has_at_most_1048576_bytes(rt: HostRuntime) -> Result<(), Fail> {
     assert!(rt; long.log == log);
     law_of_entries();
     law_of_isolation();
+    law_of_more_packets();
+    law_of_openings();
     law_of_pace();
     Ok(())
 }

@@ -13,9 +13,10 @@ use Rattle.hall_core.specs.Replay.{State, after}
 use Rattle.hall_core.specs.declared.entry.Entry.TheVariants as entry
 use Rattle.hall_core.specs.declared.entry.Goal.{Goal}
 use Rattle.hall_core.specs.declared.entry.Goal.TheVariants as goal
-use Rattle.solo_session.specs.Pace.{batch_size, greatest, hits_goal, may_record, may_stop, most_next, record_entries, record_of, some_hits, stop_entries}
-use Rattle.solo_session.specs.Reply.{event}
-use Rattle.solo_session.specs.Session.{IsAhead, IsRunning, IsServing, events}
+use Rattle.solo_session.specs.Pace.{batch_size, most_next, record_entries, stop_entries}
+use Rattle.hall_core.specs.Batches.{greatest, hits_goal, may_record, may_stop, record_of, some_hits}
+use Rattle.session_core.specs.Replies.{event, events}
+use Rattle.solo_session.specs.Session.{IsAhead, IsRunning, IsServing}
 
 -- where the numbers up to a bound pass and no other, the greatest up to n is the smaller of the two
 pub greatest_is : (test : ℕ → Bool) (bound : ℕ) → ((m : ℕ) → 1 ≤ m → m ≤ bound → test m ≡ true) → ((m : ℕ) → bound < m → test m ≡ false) → (n : ℕ) → greatest test n ≡ min n bound

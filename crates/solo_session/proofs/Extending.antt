@@ -12,7 +12,7 @@ use Rattle.hall_core.specs.declared.entry.Entry.{Entry}
 use Rattle.hall_core.specs.declared.entry.Entry.TheVariants as entry
 use Rattle.hall_core.specs.declared.entry.Why.TheVariants as why
 use Rattle.solo_session.specs.Pace.{batch, batches, closing, input_limit, most_next, opening, packets_of, record_entries, recorded, solo_history, stop_entries, with_packet, with_packets}
-use Rattle.solo_session.specs.Reply.{act_of}
+use Rattle.session_core.specs.Replies.{act_of}
 use Rattle.solo_session.specs.Solo.{ending_of, is_too_long}
 use Rattle.solo_session.specs.declared.solo.Ending.TheVariants as ending
 

@@ -13,7 +13,8 @@ use Rattle.hall_core.specs.declared.entry.Entry.TheVariants as entry
 use Rattle.hall_core.specs.declared.entry.Goal.{Goal}
 use Rattle.hall_core.specs.declared.entry.Goal.TheVariants as goal
 use Rattle.hall_core.proofs.Progress.{replay-push}
-use Rattle.solo_session.specs.Pace.{batch, batch_size, batches, greatest, may_record, may_stop, most_next, opening, record_entries, record_of, recorded, some_hits, stop_entries, stopped, with_packets}
+use Rattle.solo_session.specs.Pace.{batch, batch_size, batches, most_next, opening, record_entries, recorded, stop_entries, stopped, with_packets}
+use Rattle.hall_core.specs.Batches.{greatest, may_record, may_stop, record_of, some_hits}
 use Rattle.solo_session.specs.Session.{IsAhead, IsServing}
 use Rattle.solo_session.proofs.Paced.{serving_batch, serving_packets}
 use Rattle.solo_session.proofs.Serving.{serving_within}

@@ -5,8 +5,7 @@ use Rattle.std.specs.List.{list_all}
 use Rattle.std.proofs.lemmas.Bool.Decides.{nat_tests}
 use Rattle.std.proofs.lemmas.List.{append_assoc, length_push}
 use Rattle.circuit.specs.Rounds.{Row, Run, run_length}
-use Rattle.flat_run.specs.Run.{Sampled, run_of}
-use Rattle.flat_stimulus.specs.Until.{samples_until}
+use Rattle.hall_core.specs.Samples.{samples_until}
 use Rattle.hall_core.specs.Facts.{facts_of}
 use Rattle.hall_core.specs.Laws.{Taken, none, one_more, is_recording}
 use Rattle.hall_core.specs.Legal.{RunFacts, is_open, is_true, may_act}
@@ -17,15 +16,16 @@ use Rattle.hall_core.specs.declared.entry.Entry.TheVariants as entry
 use Rattle.hall_core.proofs.Progress.{replay-push}
 use Rattle.proto_packets.specs.Asked.{asked}
 use Rattle.proto_packets.specs.declared.request.Request.TheVariants as request
-use Rattle.proto_replies.specs.Text.{packet_text}
+use Rattle.proto_replies.specs.Data.{packet_text}
 use Rattle.proto_replies.specs.declared.answer.ErrorKind.{ErrorKind}
-use Rattle.solo_session.specs.Refused.{Reading, error_of, greets, is_greeted}
-use Rattle.solo_session.specs.Reply.{act_asked, act_in, act_of, act_unless, answer_in, event, goal_of, moment_of}
-use Rattle.solo_session.specs.Said.{Agrees, packets_in, said, said_behind}
+use Rattle.session_core.specs.Refusals.{Reading, error_of, greets, is_greeted}
+use Rattle.session_core.specs.Replies.{act_asked, act_in, act_of, act_unless, answer_in, event, goal_of, events}
+use Rattle.hall_core.specs.Moments.{moment_of}
+use Rattle.session_core.specs.Said.{Agrees, packets_in, said, said_behind}
 use Rattle.solo_session.specs.Pace.{batch, batches, opening, with_packet, with_packets}
-use Rattle.solo_session.specs.Session.{HasSaid, HasServed, IsServing, Served, events, packet_entry}
-use Rattle.solo_session.proofs.Sayings.{is_greeted_push, packets_in_batch, packets_in_push_packet, said_batch, said_packet}
-use Rattle.solo_session.proofs.Agreeing.{agrees_batch, agrees_packet}
+use Rattle.solo_session.specs.Session.{HasSaid, HasServed, IsServing, Conversation, packet_entry}
+use Rattle.session_core.proofs.Sayings.{is_greeted_push, packets_in_batch, packets_in_push_packet, said_batch, said_packet}
+use Rattle.session_core.proofs.Agreeing.{agrees_batch, agrees_packet}
 use Rattle.solo_session.proofs.Serving.{packet_allowed, packet_served}
 use Rattle.solo_session.proofs.Taking.{taken_packet}
 
@@ -51,18 +51,18 @@ batches_push facts k h = (let more : k + 1 ≡ suc k = omega arith in ap (λ z. 
 open_served : (run : Run) (s : State) → IsServing run s → is_open s 0 ≡ true
 open_served run s serving = ap (λ cs. is_true (slice_get cs 0)) serving.clients
 
-pub has_said_more : (packets : List (List ℕ)) (s : Served) (bytes : List ℕ) (es : List Entry) → HasSaid packets s bytes → list_all is_recording es ≡ true → Taken (facts_of (run_of s.run)) (s.history ++ es) → IsServing (run_of s.run) (replay (s.history ++ es))
-    → HasSaid packets (record s { history = s.history ++ es }) (bytes ++ events (run_of s.run) s.greeted (replay s.history) es)
+pub has_said_more : (packets : List (List ℕ)) (s : Conversation) (bytes : List ℕ) (es : List Entry) → HasSaid packets s bytes → list_all is_recording es ≡ true → Taken (facts_of s.run) (s.history ++ es) → IsServing s.run (replay (s.history ++ es))
+    → HasSaid packets (record s { history = s.history ++ es }) (bytes ++ events s.run s.greeted (replay s.history) es)
 has_said_more packets s bytes es has all taken serving = record {
   serving = serving;
   greeted = has.greeted;
   counted = packets_in_batch s.history es all ∙ has.counted;
   taken = taken;
-  agrees = agrees_batch (run_of s.run) packets s.history es has.agrees all;
+  agrees = agrees_batch s.run packets s.history es has.agrees all;
   said =
-      ap (λ z. z ++ events (run_of s.run) s.greeted (replay s.history) es) has.said
-      ∙ ap (λ b. said (run_of s.run) packets 0 s.history ++ events (run_of s.run) b (replay s.history) es) has.greeted
-      ∙ sym (said_batch (run_of s.run) packets s.history es (open_served (run_of s.run) (replay s.history) has.serving) has.counted all);
+      ap (λ z. z ++ events s.run s.greeted (replay s.history) es) has.said
+      ∙ ap (λ b. said s.run packets 0 s.history ++ events s.run b (replay s.history) es) has.greeted
+      ∙ sym (said_batch s.run packets s.history es (open_served s.run (replay s.history) has.serving) has.counted all);
 }
 
 -- ---- a run is asked for at most all samples
@@ -103,43 +103,43 @@ may_in run greeted read = may_unless run.count (error_of greeted read) (act_aske
 
 -- ---- a packet is served
 
-module _ (packets : List (List ℕ)) (s : Served) (bytes p : List ℕ) (has : HasSaid packets s bytes) where
+module _ (packets : List (List ℕ)) (s : Conversation) (bytes p : List ℕ) (has : HasSaid packets s bytes) where
   greeted_more : (s.greeted || greets (asked p)) ≡ is_greeted (packets ++ p ∷ [])
   greeted_more = ap (λ b. b || greets (asked p)) has.greeted ∙ sym (is_greeted_push packets p)
 
-  what_is : act_in (run_of s.run) s.greeted (asked p) ≡ act_of (run_of s.run) packets p
-  what_is = ap (λ b. act_in (run_of s.run) b (asked p)) has.greeted
+  what_is : act_in s.run s.greeted (asked p) ≡ act_of s.run packets p
+  what_is = ap (λ b. act_in s.run b (asked p)) has.greeted
 
-  serving_packet : IsServing (run_of s.run) (replay (s.history ++ packet_entry s (asked p) ∷ []))
+  serving_packet : IsServing s.run (replay (s.history ++ packet_entry s (asked p) ∷ []))
   serving_packet =
-      subst (λ z. IsServing (run_of s.run) z) (sym (replay-push s.history (packet_entry s (asked p))))
-      (packet_served (run_of s.run) (replay s.history) (act_in (run_of s.run) s.greeted (asked p)) has.serving (may_in (run_of s.run) s.greeted (asked p)))
+      subst (λ z. IsServing s.run z) (sym (replay-push s.history (packet_entry s (asked p))))
+      (packet_served s.run (replay s.history) (act_in s.run s.greeted (asked p)) has.serving (may_in s.run s.greeted (asked p)))
 
   counted_packet : packets_in 0 (s.history ++ packet_entry s (asked p) ∷ []) ≡ length (packets ++ p ∷ [])
-  counted_packet = omega (arith, has.counted, packets_in_push_packet s.history (act_in (run_of s.run) s.greeted (asked p)), length_push packets p)
+  counted_packet = omega (arith, has.counted, packets_in_push_packet s.history (act_in s.run s.greeted (asked p)), length_push packets p)
 
-  taken_in : Taken (facts_of (run_of s.run)) (s.history ++ packet_entry s (asked p) ∷ [])
+  taken_in : Taken (facts_of s.run) (s.history ++ packet_entry s (asked p) ∷ [])
   taken_in =
-      taken_packet (facts_of (run_of s.run)) s.history (act_in (run_of s.run) s.greeted (asked p))
-      (packet_allowed (run_of s.run) (replay s.history) (act_in (run_of s.run) s.greeted (asked p)) has.serving (may_in (run_of s.run) s.greeted (asked p))) has.taken
+      taken_packet (facts_of s.run) s.history (act_in s.run s.greeted (asked p))
+      (packet_allowed s.run (replay s.history) (act_in s.run s.greeted (asked p)) has.serving (may_in s.run s.greeted (asked p))) has.taken
 
-  agrees_in : Agrees (run_of s.run) (packets ++ p ∷ []) 0 (s.history ++ packet_entry s (asked p) ∷ [])
-  agrees_in = subst (λ z. Agrees (run_of s.run) (packets ++ p ∷ []) 0 (s.history ++ entry.Packet 0 z ∷ [])) (sym what_is) (agrees_packet (run_of s.run) packets p s.history has.agrees has.counted)
+  agrees_in : Agrees s.run (packets ++ p ∷ []) 0 (s.history ++ packet_entry s (asked p) ∷ [])
+  agrees_in = subst (λ z. Agrees s.run (packets ++ p ∷ []) 0 (s.history ++ entry.Packet 0 z ∷ [])) (sym what_is) (agrees_packet s.run packets p s.history has.agrees has.counted)
 
   text_of : Bool → Bool → List ℕ
-  text_of was now = packet_text (answer_in (run_of s.run) was (moment_of (after (replay s.history) (packet_entry s (asked p)))) (asked p)) ++ event (run_of s.run) now (replay s.history) (packet_entry s (asked p))
+  text_of was now = packet_text (answer_in s.run was (moment_of (after (replay s.history) (packet_entry s (asked p)))) (asked p)) ++ event s.run now (replay s.history) (packet_entry s (asked p))
 
-  said_in : bytes ++ text_of s.greeted (s.greeted || greets (asked p)) ≡ said (run_of s.run) (packets ++ p ∷ []) 0 (s.history ++ packet_entry s (asked p) ∷ [])
+  said_in : bytes ++ text_of s.greeted (s.greeted || greets (asked p)) ≡ said s.run (packets ++ p ∷ []) 0 (s.history ++ packet_entry s (asked p) ∷ [])
   unfolding text_of
   said_in =
       ap (λ z. z ++ text_of s.greeted (s.greeted || greets (asked p))) has.said
-      ∙ ap (λ b. said (run_of s.run) packets 0 s.history ++ text_of b (s.greeted || greets (asked p))) has.greeted
-      ∙ ap (λ b. said (run_of s.run) packets 0 s.history ++ text_of (is_greeted packets) b) greeted_more
-      ∙ sym (said_packet (run_of s.run) packets p s.history (act_in (run_of s.run) s.greeted (asked p)) (open_served (run_of s.run) (replay s.history) has.serving) has.counted)
+      ∙ ap (λ b. said s.run packets 0 s.history ++ text_of b (s.greeted || greets (asked p))) has.greeted
+      ∙ ap (λ b. said s.run packets 0 s.history ++ text_of (is_greeted packets) b) greeted_more
+      ∙ sym (said_packet s.run packets p s.history (act_in s.run s.greeted (asked p)) (open_served s.run (replay s.history) has.serving) has.counted)
 
-pub has_said_packet : (packets : List (List ℕ)) (s : Served) (bytes p : List ℕ) → HasSaid packets s bytes
+pub has_said_packet : (packets : List (List ℕ)) (s : Conversation) (bytes p : List ℕ) → HasSaid packets s bytes
     → HasSaid (packets ++ p ∷ []) (record s { history = s.history ++ packet_entry s (asked p) ∷ []; greeted = s.greeted || greets (asked p) })
-    (bytes ++ (packet_text (answer_in (run_of s.run) s.greeted (moment_of (after (replay s.history) (packet_entry s (asked p)))) (asked p)) ++ event (run_of s.run) (s.greeted || greets (asked p)) (replay s.history) (packet_entry s (asked p))))
+    (bytes ++ (packet_text (answer_in s.run s.greeted (moment_of (after (replay s.history) (packet_entry s (asked p)))) (asked p)) ++ event s.run (s.greeted || greets (asked p)) (replay s.history) (packet_entry s (asked p))))
 unfolding text_of
 has_said_packet packets s bytes p has = record {
   serving = serving_packet packets s bytes p has;
@@ -150,17 +150,17 @@ has_said_packet packets s bytes p has = record {
   said = said_in packets s bytes p has;
 }
 
-paced_packet : (packets : List (List ℕ)) (s next : Served) (bytes p : List ℕ) → HasServed packets s bytes → next.run ≡ s.run → next.history ≡ batch (facts_of (run_of s.run)) (s.history ++ packet_entry s (asked p) ∷ [])
-    → next.history ≡ with_packets (run_of next.run) [] opening (packets ++ p ∷ [])
+paced_packet : (packets : List (List ℕ)) (s next : Conversation) (bytes p : List ℕ) → HasServed packets s bytes → next.run ≡ s.run → next.history ≡ batch (facts_of s.run) (s.history ++ packet_entry s (asked p) ∷ [])
+    → next.history ≡ with_packets next.run [] opening (packets ++ p ∷ [])
 paced_packet packets s next bytes p served same is =
     is
-    ∙ ap (λ b. batch (facts_of (run_of s.run)) (s.history ++ entry.Packet 0 (act_in (run_of s.run) b (asked p)) ∷ [])) served.has_said.greeted
-    ∙ ap (λ h. with_packet (run_of s.run) packets h p) served.paced
-    ∙ sym (with_packets_push (run_of s.run) [] opening packets p)
-    ∙ ap (λ (r : Sampled). with_packets (run_of r) [] opening (packets ++ p ∷ [])) (sym same)
+    ∙ ap (λ b. batch (facts_of s.run) (s.history ++ entry.Packet 0 (act_in s.run b (asked p)) ∷ [])) served.has_said.greeted
+    ∙ ap (λ h. with_packet s.run packets h p) served.paced
+    ∙ sym (with_packets_push s.run [] opening packets p)
+    ∙ ap (λ (r : Run). with_packets r [] opening (packets ++ p ∷ [])) (sym same)
 
-pub has_served_packet : (packets : List (List ℕ)) (s next : Served) (bytes p now : List ℕ) → HasServed packets s bytes → HasSaid (packets ++ p ∷ []) next now → next.run ≡ s.run
-    → next.history ≡ batch (facts_of (run_of s.run)) (s.history ++ packet_entry s (asked p) ∷ []) → HasServed (packets ++ p ∷ []) next now
+pub has_served_packet : (packets : List (List ℕ)) (s next : Conversation) (bytes p now : List ℕ) → HasServed packets s bytes → HasSaid (packets ++ p ∷ []) next now → next.run ≡ s.run
+    → next.history ≡ batch (facts_of s.run) (s.history ++ packet_entry s (asked p) ∷ []) → HasServed (packets ++ p ∷ []) next now
 has_served_packet packets s next bytes p now served has same is = record {
   paced = paced_packet packets s next bytes p served same is;
   has_said = has;
@@ -184,7 +184,7 @@ opened_said run = refl
 pub opened_taken : (facts : RunFacts) → 1 ≤ facts.length → Taken facts opening
 opened_taken facts some = one_more (one_more none (entry.Record 1 false) (record { allows = refl; meets = (some, tt {0}) })) (entry.Open 0) (record { allows = refl; meets = tt {0} })
 
-pub opened : (run : Sampled) → 1 ≤ run_length (run_of run) → HasServed [] (record { run = run; history = opening; greeted = false }) []
+pub opened : (run : Run) → 1 ≤ run_length run → HasServed [] (record { run = run; history = opening; greeted = false }) []
 unfolding with_packets
 opened run some = record {
   paced = refl;
@@ -192,15 +192,15 @@ opened run some = record {
     serving = record { clients = refl; some = omega arith; settled = some; ahead = tt {0} };
     greeted = refl;
     counted = refl;
-    taken = opened_taken (facts_of (run_of run)) some;
-    agrees = opened_agrees (run_of run);
-    said = opened_said (run_of run);
+    taken = opened_taken (facts_of run) some;
+    agrees = opened_agrees run;
+    said = opened_said run;
   };
 }
 
 -- a session of a run of which sample 0 settles, with the beginning of a history
-pub opened_as : (s : Served) (run : Sampled) → s.run ≡ run → s.history ≡ opening → s.greeted ≡ false → 1 ≤ run_length (run_of run) → HasServed [] s []
+pub opened_as : (s : Conversation) (run : Run) → s.run ≡ run → s.history ≡ opening → s.greeted ≡ false → 1 ≤ run_length run → HasServed [] s []
 opened_as s run same_run is plain some =
-    subst (λ (r : Sampled). HasServed [] (record { run = r; history = s.history; greeted = s.greeted }) []) (sym same_run)
+    subst (λ (r : Run). HasServed [] (record { run = r; history = s.history; greeted = s.greeted }) []) (sym same_run)
     (subst (λ (h : List Entry). HasServed [] (record { run = run; history = h; greeted = s.greeted }) []) (sym is)
     (subst (λ (b : Bool). HasServed [] (record { run = run; history = opening; greeted = b }) []) (sym plain) (opened run some)))

@@ -1,26 +1,27 @@
 -- What was read and sent when a session ends, or when memory is wanting.
-use Rattle.std.proofs.Common.{◌≡◌, ℕ, ◌+◌, ◌≤◌, List, [], ◌∷◌, ◌++◌, length, map, refl, sym, ap, subst, arith, ◌∙◌, append-nil, Option, inl, inr, length-append, Ok, Err}
+use Rattle.std.proofs.Common.{◌≡◌, ℕ, ◌+◌, ◌≤◌, List, [], ◌∷◌, ◌++◌, length, map, refl, sym, ap, subst, arith, ◌∙◌, append-nil, Option, true, false, inl, inr, length-append, Ok, Err}
 use Rattle.std.specs.Prelude.{OnErr}
 use Rattle.std.specs.declared.result.Result.{Result}
 use Rattle.std.specs.Io.KnownBytes.{append_known, prepend_known}
 use Rattle.std.proofs.lemmas.List.{append_assoc, take_all}
 use Rattle.circuit.specs.Rounds.{Run}
-use Rattle.flat_run.specs.Run.{Sampled, run_of}
-use Rattle.frame_zero.specs.Packets.{packets, whole}
+use Rattle.frame_zero.specs.Packets.{Packet, has_too_long, packets, too_long, whole, wholes}
 use Rattle.hall_core.specs.declared.entry.Entry.{Entry}
 use Rattle.hall_core.specs.declared.entry.Entry.TheVariants as entry
 use Rattle.hall_core.specs.declared.entry.Why.TheVariants as why
-use Rattle.solo_session.specs.Pace.{input_limit, opening, packets_of, solo_history, wholes, with_packets}
+use Rattle.solo_session.specs.Pace.{course, input_limit, opening, packets_of, solo_history, with_packets}
 use Rattle.solo_session.specs.Reading.{HasRead, IsReading}
-use Rattle.solo_session.specs.Said.{said, said_behind}
-use Rattle.solo_session.specs.Session.{Served}
-use Rattle.solo_session.specs.Solo.{IsBroken, IsCutOff, IsEnded, IsEndedBy, IsReadOf, IsSentInPart, IsServedTo, IsWanting, IsWhole, Start}
+use Rattle.session_core.specs.Said.{said, said_behind}
+use Rattle.solo_session.specs.Session.{Conversation}
+use Rattle.solo_session.specs.Solo.{IsBroken, IsCutOff, IsEnded, IsEndedBy, IsReadOf, IsServedTo, IsWanting, IsWhole, Start, due}
+use Rattle.outside.specs.Sink.{IsSentInPart}
 use Rattle.solo_session.specs.declared.solo.Ending.{Ending}
 use Rattle.solo_session.specs.declared.solo.Ending.TheVariants as ending
-use Rattle.solo_session.proofs.Endings.{sent_all}
-use Rattle.solo_session.proofs.Packeted.{wholes_done}
-use Rattle.solo_session.proofs.Reading.{prepend_two, reading_breaks, started}
-use Rattle.solo_session.proofs.Sayings.{said-append, said_closed}
+use Rattle.outside.proofs.SinkLemmas.{sent_all}
+use Rattle.frame_zero.proofs.Streams.{has_too_long_done, wholes_done}
+use Rattle.outside.proofs.SourceLemmas.{prepend_two}
+use Rattle.solo_session.proofs.Reading.{reading_breaks, started}
+use Rattle.session_core.proofs.Sayings.{said-append, said_closed}
 
 pub on_err : {T E P : Type 0} (r : Result T E) → P → OnErr r P
 on_err (Ok x) p = tt
@@ -28,19 +29,19 @@ on_err (Err e) p = p
 
 -- ---- what was read
 
-pub read_of : (start : Start) (left : Option (List ℕ)) (s : Served) (rest : List ℕ) (taken : ℕ) (told : List ℕ) (read : HasRead start left s rest taken told) → IsReadOf start.left left read.given
+pub read_of : (start : Start) (left : Option (List ℕ)) (s : Conversation) (rest : List ℕ) (taken : ℕ) (told : List ℕ) (read : HasRead start left s rest taken told) → IsReadOf start.left left read.given
 read_of start left s rest taken told read = record {
   few = (let e : length read.given ≡ taken = read.count in let l : taken ≤ input_limit = read.within in omega (arith, e, l));
   read = read.read;
 }
 
-pub ended_by : (start : Start) (left held : Option (List ℕ)) (s : Served) (rest : List ℕ) (taken : ℕ) (told : List ℕ) (history : List Entry) (ends : Ending) (read : HasRead start left s rest taken told)
+pub ended_by : (start : Start) (left held : Option (List ℕ)) (s : Conversation) (rest : List ℕ) (taken : ℕ) (told : List ℕ) (history : List Entry) (ends : Ending) (read : HasRead start left s rest taken told)
     → IsEndedBy start left held history read.given ends → IsEnded start left held history ends
 ended_by start left held s rest taken told history ends read by = record { given = read.given; taken = read_of start left s rest taken told read; by = by }
 
 -- one byte more than are served was read
-pub over_by : (start : Start) (left held here : Option (List ℕ)) (s : Served) (rest piece : List ℕ) (taken : ℕ) (history : List Entry) → IsReading start (prepend_known piece left) here s rest taken → length piece ≤ 1
-    → IsWhole start left held history ending.Limit → IsEnded start left held history ending.Limit
+pub over_by : (start : Start) (left held here : Option (List ℕ)) (s : Conversation) (rest piece : List ℕ) (taken : ℕ) (history : List Entry) (reading : IsReading start (prepend_known piece left) here s rest taken) → length piece ≤ 1
+    → IsWhole start left held history (reading.1.given ++ piece) ending.Limit → IsEnded start left held history ending.Limit
 over_by start left held here s rest piece taken history (told, read, sent, none) one by = record {
   given = read.given ++ piece;
   taken = record {
@@ -50,34 +51,70 @@ over_by start left held here s rest piece taken history (told, read, sent, none)
   by = by;
 }
 
--- ---- the input failed
+-- ---- by what was read
 
-given_packets : (start : Start) (left : Option (List ℕ)) (s : Served) (rest : List ℕ) (taken : ℕ) (told : List ℕ) (read : HasRead start left s rest taken told) → packets rest ≡ [] → packets_of read.given ≡ read.done
-unfolding wholes
+read_within : (start : Start) (left : Option (List ℕ)) (s : Conversation) (rest : List ℕ) (taken : ℕ) (told : List ℕ) (read : HasRead start left s rest taken told) → length read.given ≤ input_limit
+read_within start left s rest taken told read = (let e : length read.given ≡ taken = read.count in let l : taken ≤ input_limit = read.within in omega (arith, e, l))
+
+-- the packets of the bytes that were read, and those behind them
+read_packets : (start : Start) (left : Option (List ℕ)) (s : Conversation) (rest : List ℕ) (taken : ℕ) (told : List ℕ) (read : HasRead start left s rest taken told) → packets read.given ≡ map whole read.done ++ packets rest
+read_packets start left s rest taken told read = ap packets (sym (append-nil read.given)) ∙ read.parts [] ∙ ap (λ z. map whole read.done ++ packets z) (append-nil rest)
+
+pub given_packets : (start : Start) (left : Option (List ℕ)) (s : Conversation) (rest : List ℕ) (taken : ℕ) (told : List ℕ) (read : HasRead start left s rest taken told) → wholes (packets rest) ≡ [] → packets_of read.given ≡ read.done
 given_packets start left s rest taken told read none =
-    let within : length read.given ≤ input_limit = (let e : length read.given ≡ taken = read.count in let l : taken ≤ input_limit = read.within in omega (arith, e, l)) in
-    ap (λ z. wholes (packets z)) (take_all input_limit read.given within)
-    ∙ ap wholes (ap packets (sym (append-nil read.given)) ∙ read.parts [] ∙ ap (λ z. map whole read.done ++ packets z) (append-nil rest) ∙ ap (λ z. map whole read.done ++ z) none)
-    ∙ wholes_done read.done [] ∙ append-nil read.done
+    ap (λ z. wholes (packets z)) (take_all input_limit read.given (read_within start left s rest taken told read))
+    ∙ ap wholes (read_packets start left s rest taken told read)
+    ∙ wholes_done read.done (packets rest) ∙ ap (λ z. read.done ++ z) none ∙ append-nil read.done
 
-served_to : (start : Start) (left held : Option (List ℕ)) (s : Served) (rest : List ℕ) (taken : ℕ) (told : List ℕ) (read : HasRead start left s rest taken told) → held ≡ append_known start.held told → packets rest ≡ []
+pub given_long : (start : Start) (left : Option (List ℕ)) (s : Conversation) (rest : List ℕ) (taken : ℕ) (told : List ℕ) (read : HasRead start left s rest taken told) → has_too_long (packets read.given) ≡ has_too_long (packets rest)
+given_long start left s rest taken told read = ap has_too_long (read_packets start left s rest taken told read) ∙ has_too_long_done read.done (packets rest)
+
+pub none_whole : (ps : List Packet) → ps ≡ [] → wholes ps ≡ []
+unfolding wholes
+none_whole ps is = ap wholes is
+
+pub none_whole_long : (ps : List Packet) → ps ≡ too_long ∷ [] → wholes ps ≡ []
+unfolding wholes
+none_whole_long ps is = ap wholes is
+
+pub none_long : (ps : List Packet) → ps ≡ [] → has_too_long ps ≡ false
+unfolding has_too_long
+none_long ps is = ap has_too_long is
+
+pub is_long : (ps : List Packet) → ps ≡ too_long ∷ [] → has_too_long ps ≡ true
+unfolding has_too_long
+is_long ps is = ap has_too_long is
+
+-- the history, and what was told, are those of the packets of the bytes that were read
+pub course_is : (start : Start) (left : Option (List ℕ)) (s : Conversation) (rest : List ℕ) (taken : ℕ) (told : List ℕ) (read : HasRead start left s rest taken told) → wholes (packets rest) ≡ [] → s.history ≡ course s.run read.given
+course_is start left s rest taken told read none = read.served.paced ∙ ap (λ z. with_packets s.run [] opening z) (sym (given_packets start left s rest taken told read none))
+
+pub due_is : (start : Start) (left : Option (List ℕ)) (s : Conversation) (rest : List ℕ) (taken : ℕ) (told : List ℕ) (read : HasRead start left s rest taken told) → wholes (packets rest) ≡ [] → told ≡ due s.run read.given
+due_is start left s rest taken told read none =
+    read.served.has_said.said
+    ∙ ap (λ z. said s.run z 0 s.history) (sym (given_packets start left s rest taken told read none))
+    ∙ ap (λ z. said s.run (packets_of read.given) 0 z) (course_is start left s rest taken told read none)
+
+served_to : (start : Start) (left held : Option (List ℕ)) (s : Conversation) (rest : List ℕ) (taken : ℕ) (told : List ℕ) (read : HasRead start left s rest taken told) → held ≡ append_known start.held told → packets rest ≡ []
     → IsServedTo (started start s.run) held (s.history ++ entry.Close 0 why.Fault ∷ entry.End ∷ []) read.given
 served_to start left held s rest taken told read sent none =
-    let same : packets_of read.given ≡ read.done = given_packets start left s rest taken told read none in
+    let same : packets_of read.given ≡ read.done = given_packets start left s rest taken told read (none_whole (packets rest) none) in
     record {
-      whole = ap (λ z. z ++ entry.Close 0 why.Fault ∷ entry.End ∷ []) (read.served.paced ∙ ap (λ z. with_packets (run_of s.run) [] opening z) (sym same));
+      whole = ap (λ z. z ++ entry.Close 0 why.Fault ∷ entry.End ∷ []) (course_is start left s rest taken told read (none_whole (packets rest) none));
       sent = sent
           ∙ ap (λ z. append_known start.held z)
-          (read.served.has_said.said ∙ sym (append-nil (said (run_of s.run) read.done 0 s.history)) ∙ sym (said_closed (run_of s.run) read.done s.history why.Fault)
-          ∙ ap (λ z. said (run_of s.run) z 0 (s.history ++ entry.Close 0 why.Fault ∷ entry.End ∷ [])) (sym same));
+          (read.served.has_said.said ∙ sym (append-nil (said s.run read.done 0 s.history)) ∙ sym (said_closed s.run read.done s.history why.Fault)
+          ∙ ap (λ z. said s.run z 0 (s.history ++ entry.Close 0 why.Fault ∷ entry.End ∷ [])) (sym same));
     }
 
-pub input_fails : (start : Start) (left held : Option (List ℕ)) (s : Served) (rest : List ℕ) (taken : ℕ) → IsReading start left held s rest taken
+-- ---- the input failed
+
+pub input_fails : (start : Start) (left held : Option (List ℕ)) (s : Conversation) (rest : List ℕ) (taken : ℕ) → IsReading start left held s rest taken
     → IsEnded start left held (s.history ++ entry.Close 0 why.Fault ∷ entry.End ∷ []) ending.InputFailed
 input_fails start left held s rest taken (told, read, sent, none) =
     ended_by start left held s rest taken told (s.history ++ entry.Close 0 why.Fault ∷ entry.End ∷ []) ending.InputFailed read (
       reading_breaks start left held s rest taken (told, read, sent, none),
-      subst (λ (r : Sampled). IsServedTo (started start r) held (s.history ++ entry.Close 0 why.Fault ∷ entry.End ∷ []) read.given) read.run (served_to start left held s rest taken told read sent none),
+      subst (λ (r : Run). IsServedTo (started start r) held (s.history ++ entry.Close 0 why.Fault ∷ entry.End ∷ []) read.given) read.run (served_to start left held s rest taken told read sent none),
     )
 
 -- ---- memory is wanting
@@ -104,19 +141,19 @@ broken_wanting start held history b = record {
   sent =
       elim b.broken [
         | inl cut ↦
-            longer start.held held (said (run_of start.run) (packets_of b.bytes) 0 history) (said_behind (run_of start.run) (packets_of b.bytes) 0 cut.begun cut.more)
-            (said (run_of start.run) (packets_of b.bytes) 0 (solo_history (run_of start.run) b.bytes)) b.sent
-            (cut_says (run_of start.run) (packets_of b.bytes) cut.begun cut.more history (solo_history (run_of start.run) b.bytes) cut.parts cut.cut)
-        | inr same ↦ subst (λ (h : List Entry). IsSentInPart start.held held (said (run_of start.run) (packets_of b.bytes) 0 h)) same.1 b.sent
+            longer start.held held (said start.run (packets_of b.bytes) 0 history) (said_behind start.run (packets_of b.bytes) 0 cut.begun cut.more)
+            (said start.run (packets_of b.bytes) 0 (solo_history start.run b.bytes)) b.sent
+            (cut_says start.run (packets_of b.bytes) cut.begun cut.more history (solo_history start.run b.bytes) cut.parts cut.cut)
+        | inr same ↦ subst (λ (h : List Entry). IsSentInPart start.held held (said start.run (packets_of b.bytes) 0 h)) same.1 b.sent
       ];
 }
 
-pub whole_wanting : (start : Start) (left held : Option (List ℕ)) (history : List Entry) (ends : Ending) → IsWhole start left held history ends → IsWanting start held
-whole_wanting start left held history ends w = record {
+pub whole_wanting : (start : Start) (left held : Option (List ℕ)) (history : List Entry) (given : List ℕ) (ends : Ending) → IsWhole start left held history given ends → IsWanting start held
+whole_wanting start left held history given ends w = record {
   bytes = w.bytes;
   input = w.input;
-  sent = subst (λ (h : List Entry). IsSentInPart start.held held (said (run_of start.run) (packets_of w.bytes) 0 h)) w.whole (sent_all start.held held (said (run_of start.run) (packets_of w.bytes) 0 history) w.sent);
+  sent = subst (λ (h : List Entry). IsSentInPart start.held held (said start.run (packets_of w.bytes) 0 h)) w.whole (sent_all start.held held (said start.run (packets_of w.bytes) 0 history) w.sent);
 }
 
-pub reading_wanting : (start : Start) (left held : Option (List ℕ)) (s : Served) (rest : List ℕ) (taken : ℕ) → IsReading start left held s rest taken → IsWanting start held
+pub reading_wanting : (start : Start) (left held : Option (List ℕ)) (s : Conversation) (rest : List ℕ) (taken : ℕ) → IsReading start left held s rest taken → IsWanting start held
 reading_wanting start left held s rest taken reading = broken_wanting start held (s.history ++ entry.Close 0 why.Fault ∷ entry.End ∷ []) (reading_breaks start left held s rest taken reading)

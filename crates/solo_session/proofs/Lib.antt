@@ -1,9 +1,5 @@
 mod Serving
 mod Batching
-mod Sayings
-mod Agreeing
-mod Isolated
-mod Packeted
 mod Taking
 mod Going
 mod Rounds
@@ -13,3 +9,4 @@ mod Extending
 mod Endings
 mod Reading
 pub mod Leaving
+mod Unsent

@@ -6,8 +6,7 @@ use Rattle.std.proofs.lemmas.Bool.Decides.{nat_tests}
 use Rattle.std.proofs.lemmas.List.{append_assoc, length_push}
 use Rattle.sim_base.specs.declared.kinds.Kinds.{Kinds}
 use Rattle.circuit.specs.Rounds.{Run, run_length}
-use Rattle.flat_run.specs.Run.{run_of}
-use Rattle.frame_zero.specs.Packets.{packets}
+use Rattle.frame_zero.specs.Packets.{packets, has_too_long}
 use Rattle.hall_core.specs.Facts.{facts_of}
 use Rattle.hall_core.specs.Laws.{Taken, none, one_more}
 use Rattle.hall_core.specs.Legal.{Legal, RunFacts, allowed}
@@ -21,14 +20,15 @@ use Rattle.hall_core.specs.declared.entry.Why.TheVariants as why
 use Rattle.hall_core.proofs.Histories.{legal_taken}
 use Rattle.hall_core.proofs.Progress.{replay-push}
 use Rattle.proto_packets.specs.Asked.{asked}
-use Rattle.solo_session.specs.Refused.{is_greeted}
-use Rattle.solo_session.specs.Reply.{act_of}
-use Rattle.solo_session.specs.Said.{Agrees, packets_in}
-use Rattle.solo_session.specs.Pace.{batch, batch_size, batches, closing, has_too_long, hits_goal, input_limit, may_record, may_stop, most_next, opening, packets_of, record_entries, record_of, recorded, solo_history, some_hits, stop_entries, stopped, with_packet, with_packets}
-use Rattle.solo_session.specs.Session.{IsServing, Served}
-use Rattle.solo_session.proofs.Agreeing.{agrees_batch, agrees_more, agrees_other, agrees_packet, no_packet_there}
+use Rattle.session_core.specs.Refusals.{is_greeted}
+use Rattle.session_core.specs.Replies.{act_of}
+use Rattle.session_core.specs.Said.{Agrees, packets_in}
+use Rattle.solo_session.specs.Pace.{batch, batch_size, batches, closing, input_limit, most_next, opening, packets_of, record_entries, recorded, solo_history, stop_entries, stopped, with_packet, with_packets}
+use Rattle.hall_core.specs.Batches.{hits_goal, may_record, may_stop, record_of, some_hits}
+use Rattle.solo_session.specs.Session.{IsServing, Conversation}
+use Rattle.session_core.proofs.Agreeing.{agrees_batch, agrees_more, agrees_other, agrees_packet, no_packet_there}
 use Rattle.solo_session.proofs.Going.{batches_push, may_in, opened_agrees, opened_taken}
-use Rattle.solo_session.proofs.Sayings.{packets_in_batch, packets_in_other, packets_in_push_packet}
+use Rattle.session_core.proofs.Sayings.{packets_in_batch, packets_in_other, packets_in_push_packet}
 use Rattle.solo_session.proofs.Serving.{packet_allowed, packet_served, record_served, serving_within}
 use Rattle.solo_session.proofs.Taking.{all_recording_record, all_recording_stop, closed_legal, greatest_passes, le_of, taken_packet, taken_recorded, taken_stopped}
 
@@ -127,9 +127,9 @@ serving_packets run ps some = (paced_packets run [] opening ps (paced_opening ru
 
 -- ---- a session from call to call
 
-pub run_out_serving : (s next : Served) → IsServing (run_of s.run) (replay s.history) → next ≡ record s { history = batches (facts_of (run_of s.run)) (run_of s.run).count s.history } → IsServing (run_of next.run) (replay next.history)
+pub run_out_serving : (s next : Conversation) → IsServing s.run (replay s.history) → next ≡ record s { history = batches (facts_of s.run) s.run.count s.history } → IsServing next.run (replay next.history)
 run_out_serving s next serving is =
-    subst (λ (x : Served). IsServing (run_of x.run) (replay x.history)) (sym is) (serving_batches (run_of s.run) (run_of s.run).count s.history serving)
+    subst (λ (x : Conversation). IsServing x.run (replay x.history)) (sym is) (serving_batches s.run s.run.count s.history serving)
 
 -- ---- a history that has ended
 

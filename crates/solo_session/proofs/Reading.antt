@@ -6,37 +6,30 @@ use Rattle.std.specs.Io.KnownBytes.{IsAtEnd, append_known, prepend_known}
 use Rattle.std.proofs.Math.Seq.{take-append-add, take-append_seam}
 use Rattle.std.proofs.lemmas.List.{append_assoc, length-take-le}
 use Rattle.std.proofs.lemmas.Bool.Decides.{nat_tests}
-use Rattle.circuit.specs.Rounds.{run_length}
-use Rattle.flat_run.specs.Run.{Sampled, run_of}
-use Rattle.frame_zero.specs.Packets.{Begins, Packet, packets, packets_from, parts_of, too_long, whole}
+use Rattle.circuit.specs.Rounds.{run_length, Run}
+use Rattle.frame_zero.specs.Packets.{Begins, Packet, packets, packets_from, parts_of, too_long, whole, has_too_long, wholes}
 use Rattle.frame_zero.proofs.PacketLaws.{packets-append}
 use Rattle.hall_core.specs.Facts.{facts_of}
 use Rattle.hall_core.specs.Replay.{replay}
 use Rattle.hall_core.specs.declared.entry.Entry.TheVariants as entry
 use Rattle.hall_core.specs.declared.entry.Why.TheVariants as why
-use Rattle.outside.specs.Sink.{TookPart}
-use Rattle.solo_session.specs.Pace.{batches, closing, has_too_long, input_limit, opening, packets_of, solo_history, wholes, with_packets}
+use Rattle.outside.specs.Sink.{TookPart, IsSentInPart}
+use Rattle.solo_session.specs.Pace.{batches, closing, input_limit, opening, packets_of, solo_history, with_packets}
 use Rattle.solo_session.specs.Reading.{HasRead, IsReading}
-use Rattle.solo_session.specs.Said.{last_words}
-use Rattle.solo_session.specs.Session.{HasSaid, HasServed, IsServedOf, IsServedSoFar, IsServing, Served}
-use Rattle.solo_session.specs.Solo.{IsBroken, IsInput, IsSentInPart, IsWhole, Start, is_too_long}
+use Rattle.session_core.specs.Said.{last_words}
+use Rattle.solo_session.specs.Session.{HasSaid, HasServed, IsServedOf, IsServedSoFar, IsServing, Conversation}
+use Rattle.solo_session.specs.Solo.{EndsTooLong, IsBroken, IsWhole, Start, is_too_long}
+use Rattle.outside.specs.Source.{IsInput}
 use Rattle.solo_session.specs.declared.solo.Ending.TheVariants as ending
-use Rattle.solo_session.proofs.Endings.{bytes_left, cut_off, is_input, sent_all, sent_more, sent_part, whole as whole_of, whole_in_part}
+use Rattle.outside.proofs.SourceLemmas.{bytes_left, is_input, prepend_two, no_bytes, none_left}
+use Rattle.solo_session.proofs.Endings.{cut_off, whole as whole_of, whole_in_part}
+use Rattle.outside.proofs.SinkLemmas.{sent_all, sent_more, sent_part, nothing_told}
 use Rattle.solo_session.proofs.Extending.{Extends, closing_ended, closing_limit, closing_long, ending_ended, ending_limit, ending_long, extends-closing, extends-more_packets, extends-trans, solo_is}
-use Rattle.solo_session.proofs.Packeted.{has_too_long_done, wholes_done}
-use Rattle.solo_session.proofs.Rounds.{ends_too_long}
+use Rattle.frame_zero.proofs.Streams.{has_too_long_done, wholes_done, ends_too_long, stays_too_long}
 
 -- ---- the start, and a piece more
 
-no_bytes : (left : Option (List ℕ)) → left ≡ prepend_known [] left
-no_bytes None = refl
-no_bytes (Some bytes) = refl
-
-nothing_told : (held : Option (List ℕ)) → held ≡ append_known held []
-nothing_told None = refl
-nothing_told (Some bytes) = ap Some (sym (append-nil bytes))
-
-pub reads_first : (s : Served) (left held : Option (List ℕ)) → HasServed [] s [] → IsReading (record { run = s.run; left = left; held = held }) left held s [] 0
+pub reads_first : (s : Conversation) (left held : Option (List ℕ)) → HasServed [] s [] → IsReading (record { run = s.run; left = left; held = held }) left held s [] 0
 unfolding parts_of packets_from
 reads_first s left held served = (
   [],
@@ -54,15 +47,11 @@ reads_first s left held served = (
   refl,
 )
 
-pub prepend_two : (one other : List ℕ) (left : Option (List ℕ)) → prepend_known one (prepend_known other left) ≡ prepend_known (one ++ other) left
-prepend_two one other None = refl
-prepend_two one other (Some bytes) = ap Some (sym (append_assoc one other bytes))
-
 map_append : (one other : List (List ℕ)) (more : List Packet) → map whole one ++ (map whole other ++ more) ≡ map whole (one ++ other) ++ more
 map_append [] other more = refl
 map_append (p ∷ one) other more = ap (λ z. whole p ∷ z) (map_append one other more)
 
-pub reads_more : (start : Start) (left : Option (List ℕ)) (s now : Served) (rest piece more : List ℕ) (taken : ℕ) (told text : List ℕ) → HasRead start (prepend_known piece left) s rest taken told → taken + length piece ≤ input_limit
+pub reads_more : (start : Start) (left : Option (List ℕ)) (s now : Conversation) (rest piece more : List ℕ) (taken : ℕ) (told text : List ℕ) → HasRead start (prepend_known piece left) s rest taken told → taken + length piece ≤ input_limit
     → IsServedSoFar (rest ++ piece) more s now [] text → HasRead start left now more (taken + length piece) (told ++ text)
 reads_more start left s now rest piece more taken told text read within so_far = record {
   run = so_far.run ∙ read.run;
@@ -80,7 +69,7 @@ reads_more start left s now rest piece more taken told text read within so_far =
   served = so_far.served read.done told (subst (λ z. HasServed read.done s z) (sym (append-nil told)) read.served);
 }
 
-pub reading_serves : (start : Start) (left held : Option (List ℕ)) (s : Served) (rest : List ℕ) (taken : ℕ) → IsReading start left held s rest taken → IsServing (run_of s.run) (replay s.history)
+pub reading_serves : (start : Start) (left held : Option (List ℕ)) (s : Conversation) (rest : List ℕ) (taken : ℕ) → IsReading start left held s rest taken → IsServing s.run (replay s.history)
 reading_serves start left held s rest taken (told, read, sent, none) = read.served.has_said.serving
 
 -- the first n bytes of a buffer that was written back whole
@@ -94,16 +83,21 @@ pub front_some : (n : ℕ) (buffer : List ℕ) → 0 < n → n ≤ length buffer
 front_some n buffer some within = (let e : length (take n buffer) ≡ n = length-take-le n buffer within in omega (arith, e, some))
 
 -- a piece was read, and stands at the front of the buffer
-pub reads_piece : (start : Start) (before left held : Option (List ℕ)) (s : Served) (rest : List ℕ) (taken n len : ℕ) (buffer now more : List ℕ) → IsReading start before held s rest taken → before ≡ prepend_known (take n buffer) left
+pub reads_piece : (start : Start) (before left held : Option (List ℕ)) (s : Conversation) (rest : List ℕ) (taken n len : ℕ) (buffer now more : List ℕ) → IsReading start before held s rest taken → before ≡ prepend_known (take n buffer) left
     → now ≡ take len (buffer ++ more) → length buffer ≡ len → IsReading start (prepend_known (take n now) left) held s rest taken
 reads_piece start before left held s rest taken n len buffer now more reading gave is long =
     subst (λ z. IsReading start z held s rest taken) (gave ∙ ap (λ z. prepend_known z left) (sym (front_of n len buffer now more is long))) reading
 
 -- a turn: the packets that end in a piece were served
-pub turned : (start : Start) (left : Option (List ℕ)) (s now : Served) (rest fed piece more : List ℕ) (taken : ℕ) (told before text : List ℕ) (ends : Bool) → HasRead start (prepend_known piece left) s rest taken told → taken + length piece ≤ input_limit
+pub turned : (start : Start) (left : Option (List ℕ)) (s now : Conversation) (rest fed piece more : List ℕ) (taken : ℕ) (told before text : List ℕ) (ends : Bool) → HasRead start (prepend_known piece left) s rest taken told → taken + length piece ≤ input_limit
     → fed ≡ rest ++ piece → before ≡ [] → IsServedOf fed more ends s now before text → HasRead start left now more (taken + length piece) (told ++ text)
 turned start left s now rest fed piece more taken told before text ends read within fed_is none served =
     reads_more start left s now rest piece more taken told text read within (subst (λ z. IsServedSoFar z more s now [] text) fed_is (subst (λ z. IsServedSoFar fed more s now z text) none served.so_far))
+
+pub turned_given : (start : Start) (left : Option (List ℕ)) (s now : Conversation) (rest fed piece more : List ℕ) (taken : ℕ) (told before text : List ℕ) (ends : Bool) (read : HasRead start (prepend_known piece left) s rest taken told) (within : taken + length piece ≤ input_limit)
+    (fed_is : fed ≡ rest ++ piece) (none : before ≡ []) (served : IsServedOf fed more ends s now before text) → (turned start left s now rest fed piece more taken told before text ends read within fed_is none served).given ≡ read.given ++ piece
+unfolding turned reads_more
+turned_given start left s now rest fed piece more taken told before text ends read within fed_is none served = refl
 
 pub left_long : (rest : List ℕ) (ends : Bool) → packets rest ≡ (if ends then too_long ∷ [] else []) → ends ≡ true → packets rest ≡ too_long ∷ []
 left_long rest ends is long = is ∙ cond-true ends (too_long ∷ []) [] long
@@ -114,7 +108,7 @@ left_none rest ends is short = is ∙ cond-false ends (too_long ∷ []) [] short
 -- ---- the bytes of the input
 
 -- these are the bytes of the input: those that were read, and more
-module _ (start : Start) (left : Option (List ℕ)) (s : Served) (rest : List ℕ) (taken : ℕ) (told : List ℕ) (read : HasRead start left s rest taken told) (more : List ℕ) where
+module _ (start : Start) (left : Option (List ℕ)) (s : Conversation) (rest : List ℕ) (taken : ℕ) (told : List ℕ) (read : HasRead start left s rest taken told) (more : List ℕ) where
   all : List ℕ
   all = read.given ++ more
 
@@ -137,55 +131,49 @@ module _ (start : Start) (left : Option (List ℕ)) (s : Served) (rest : List �
   too_long_there : is_too_long all ≡ has_too_long (packets (rest ++ later))
   too_long_there = ap has_too_long packets_are ∙ has_too_long_done read.done (packets (rest ++ later))
 
-  some_settle : 1 ≤ run_length (run_of s.run)
-  some_settle = (let a : 1 ≤ (replay s.history).n = read.served.has_said.serving.some in let b : (replay s.history).n ≤ run_length (run_of s.run) = read.served.has_said.serving.settled in omega (arith, a, b))
+  some_settle : 1 ≤ run_length s.run
+  some_settle = (let a : 1 ≤ (replay s.history).n = read.served.has_said.serving.some in let b : (replay s.history).n ≤ run_length s.run = read.served.has_said.serving.settled in omega (arith, a, b))
 
   -- the history so far begins that of all packets
-  begins_packets : Extends s.history (with_packets (run_of s.run) [] opening (packets_of all))
+  begins_packets : Extends s.history (with_packets s.run [] opening (packets_of all))
   begins_packets =
-      subst (λ z. Extends z (with_packets (run_of s.run) [] opening (packets_of all))) (sym read.served.paced)
-      (subst (λ z. Extends (with_packets (run_of s.run) [] opening read.done) (with_packets (run_of s.run) [] opening z)) (sym packets_all)
-      (extends-more_packets (run_of s.run) read.done (wholes (packets (rest ++ later)))))
+      subst (λ z. Extends z (with_packets s.run [] opening (packets_of all))) (sym read.served.paced)
+      (subst (λ z. Extends (with_packets s.run [] opening read.done) (with_packets s.run [] opening z)) (sym packets_all)
+      (extends-more_packets s.run read.done (wholes (packets (rest ++ later)))))
 
-  begins_solo : Extends s.history (solo_history (run_of s.run) all)
+  begins_solo : Extends s.history (solo_history s.run all)
   begins_solo =
-      subst (λ z. Extends s.history z) (sym (solo_is (run_of s.run) all some_settle))
-      (extends-trans s.history (with_packets (run_of s.run) [] opening (packets_of all)) (closing (run_of s.run) all (with_packets (run_of s.run) [] opening (packets_of all)))
-      begins_packets (extends-closing (run_of s.run) all (with_packets (run_of s.run) [] opening (packets_of all))))
+      subst (λ z. Extends s.history z) (sym (solo_is s.run all some_settle))
+      (extends-trans s.history (with_packets s.run [] opening (packets_of all)) (closing s.run all (with_packets s.run [] opening (packets_of all)))
+      begins_packets (extends-closing s.run all (with_packets s.run [] opening (packets_of all))))
 
   -- where no other packets come, the history is that of all packets
-  solo_here : wholes (packets (rest ++ later)) ≡ [] → solo_history (run_of s.run) all ≡ closing (run_of s.run) all s.history
+  solo_here : wholes (packets (rest ++ later)) ≡ [] → solo_history s.run all ≡ closing s.run all s.history
   solo_here none =
-      solo_is (run_of s.run) all some_settle
-      ∙ ap (λ z. closing (run_of s.run) all (with_packets (run_of s.run) [] opening z)) (packets_all ∙ ap (λ z. read.done ++ z) none ∙ append-nil read.done)
-      ∙ ap (λ z. closing (run_of s.run) all z) (sym read.served.paced)
+      solo_is s.run all some_settle
+      ∙ ap (λ z. closing s.run all (with_packets s.run [] opening z)) (packets_all ∙ ap (λ z. read.done ++ z) none ∙ append-nil read.done)
+      ∙ ap (λ z. closing s.run all z) (sym read.served.paced)
 
 -- the same start of the run of a session
-abbrev pub started : Start → Sampled → Start
+abbrev pub started : Start → Run → Start
 started start run = record { run = run; left = start.left; held = start.held }
 
 -- a fault breaks the session off
-pub broken : (start : Start) (left held : Option (List ℕ)) (s : Served) (rest : List ℕ) (taken : ℕ) (told : List ℕ) → HasRead start left s rest taken told → IsSentInPart start.held held told
+pub broken : (start : Start) (left held : Option (List ℕ)) (s : Conversation) (rest : List ℕ) (taken : ℕ) (told : List ℕ) → HasRead start left s rest taken told → IsSentInPart start.held held told
     → IsBroken start held (s.history ++ entry.Close 0 why.Fault ∷ entry.End ∷ [])
 unfolding all
 broken start left held s rest taken told read sent =
     let begins = begins_solo start left s rest taken told read (bytes_left left) in
-    subst (λ (r : Sampled). IsBroken (started start r) held (s.history ++ entry.Close 0 why.Fault ∷ entry.End ∷ [])) read.run
+    subst (λ (r : Run). IsBroken (started start r) held (s.history ++ entry.Close 0 why.Fault ∷ entry.End ∷ [])) read.run
     (cut_off s (all start left s rest taken told read (bytes_left left)) read.done (wholes (packets (rest ++ later start left s rest taken told read (bytes_left left)))) told begins.0 start.left start.held held read.served.has_said
     (packets_all start left s rest taken told read (bytes_left left)) (is_input start.left left read.given read.read) begins.1 sent)
 
-pub reading_breaks : (start : Start) (left held : Option (List ℕ)) (s : Served) (rest : List ℕ) (taken : ℕ) → IsReading start left held s rest taken → IsBroken start held (s.history ++ entry.Close 0 why.Fault ∷ entry.End ∷ [])
+pub reading_breaks : (start : Start) (left held : Option (List ℕ)) (s : Conversation) (rest : List ℕ) (taken : ℕ) → IsReading start left held s rest taken → IsBroken start held (s.history ++ entry.Close 0 why.Fault ∷ entry.End ∷ [])
 reading_breaks start left held s rest taken (told, read, sent, none) = broken start left held s rest taken told read (sent_all start.held held told sent)
 
 -- ---- a part that is too long
 
-first_of : (ps : List Packet) → Begins (too_long ∷ []) ps → slice_get ps 0 ≡ Some too_long
-first_of ps begins = ap (λ z. slice_get z 0) begins.1
-
-stays_too_long : (rest more : List ℕ) → packets rest ≡ too_long ∷ [] → packets (rest ++ more) ≡ too_long ∷ []
-stays_too_long rest more is = ends_too_long (rest ++ more) (first_of (packets (rest ++ more)) (subst (λ z. Begins z (packets (rest ++ more))) is (packets-append rest more)))
-
-module _ (start : Start) (left : Option (List ℕ)) (s : Served) (rest : List ℕ) (taken : ℕ) (told : List ℕ) (read : HasRead start left s rest taken told) (long : packets rest ≡ too_long ∷ []) where
+module _ (start : Start) (left : Option (List ℕ)) (s : Conversation) (rest : List ℕ) (taken : ℕ) (told : List ℕ) (read : HasRead start left s rest taken told) (long : packets rest ≡ too_long ∷ []) where
   long_all : List ℕ
   long_all = all start left s rest taken told read (bytes_left left)
 
@@ -207,31 +195,31 @@ module _ (start : Start) (left : Option (List ℕ)) (s : Served) (rest : List �
   unfolding long_all all
   long_input = is_input start.left left read.given read.read
 
-  solo_long : solo_history (run_of s.run) long_all ≡ s.history ++ entry.Close 0 why.TooLong ∷ entry.End ∷ []
+  solo_long : solo_history s.run long_all ≡ s.history ++ entry.Close 0 why.TooLong ∷ entry.End ∷ []
   unfolding wholes long_all long_later
-  solo_long = solo_here start left s rest taken told read (bytes_left left) (ap wholes behind) ∙ closing_long (run_of s.run) long_all s.history is_long
+  solo_long = solo_here start left s rest taken told read (bytes_left left) (ap wholes behind) ∙ closing_long s.run long_all s.history is_long
 
-  long_whole : (held : Option (List ℕ)) → held ≡ append_known start.held (told ++ last_words why.TooLong) → IsWhole (started start s.run) left held (s.history ++ entry.Close 0 why.TooLong ∷ entry.End ∷ []) ending.Served
-  long_whole held sent =
-      whole_of s long_all read.done (wholes (packets (rest ++ long_later))) told read.served.has_said long_packets why.TooLong start.left left start.held held ending.Served long_input (ending_long long_all is_long) (inr is_long) solo_long sent
+  long_whole : EndsTooLong read.given → (held : Option (List ℕ)) → held ≡ append_known start.held (told ++ last_words why.TooLong) → IsWhole (started start s.run) left held (s.history ++ entry.Close 0 why.TooLong ∷ entry.End ∷ []) read.given ending.Served
+  long_whole ends held sent =
+      whole_of s long_all read.done (wholes (packets (rest ++ long_later))) told read.served.has_said long_packets why.TooLong start.left left start.held held read.given ending.Served long_input (ending_long long_all is_long) (inr ends) solo_long sent
 
   long_in_part : (held : Option (List ℕ)) → IsSentInPart start.held held (told ++ last_words why.TooLong) → IsBroken (started start s.run) held (s.history ++ entry.Close 0 why.TooLong ∷ entry.End ∷ [])
   long_in_part held sent =
       whole_in_part s long_all read.done (wholes (packets (rest ++ long_later))) told read.served.has_said long_packets why.TooLong start.left start.held held long_input is_long solo_long sent
 
-pub refused : (start : Start) (left held : Option (List ℕ)) (s : Served) (rest : List ℕ) (taken : ℕ) (told : List ℕ) → HasRead start left s rest taken told → packets rest ≡ too_long ∷ [] → held ≡ append_known start.held (told ++ last_words why.TooLong)
-    → IsWhole start left held (s.history ++ entry.Close 0 why.TooLong ∷ entry.End ∷ []) ending.Served
-refused start left held s rest taken told read long sent =
-    subst (λ (r : Sampled). IsWhole (started start r) left held (s.history ++ entry.Close 0 why.TooLong ∷ entry.End ∷ []) ending.Served) read.run (long_whole start left s rest taken told read long held sent)
+pub refused : (start : Start) (left held : Option (List ℕ)) (s : Conversation) (rest : List ℕ) (taken : ℕ) (told : List ℕ) (read : HasRead start left s rest taken told) → packets rest ≡ too_long ∷ [] → EndsTooLong read.given → held ≡ append_known start.held (told ++ last_words why.TooLong)
+    → IsWhole start left held (s.history ++ entry.Close 0 why.TooLong ∷ entry.End ∷ []) read.given ending.Served
+refused start left held s rest taken told read long ends sent =
+    subst (λ (r : Run). IsWhole (started start r) left held (s.history ++ entry.Close 0 why.TooLong ∷ entry.End ∷ []) read.given ending.Served) read.run (long_whole start left s rest taken told read long ends held sent)
 
-pub refused_in_part : (start : Start) (left held : Option (List ℕ)) (s : Served) (rest : List ℕ) (taken : ℕ) (told : List ℕ) → HasRead start left s rest taken told → packets rest ≡ too_long ∷ [] → IsSentInPart start.held held (told ++ last_words why.TooLong)
+pub refused_in_part : (start : Start) (left held : Option (List ℕ)) (s : Conversation) (rest : List ℕ) (taken : ℕ) (told : List ℕ) → HasRead start left s rest taken told → packets rest ≡ too_long ∷ [] → IsSentInPart start.held held (told ++ last_words why.TooLong)
     → IsBroken start held (s.history ++ entry.Close 0 why.TooLong ∷ entry.End ∷ [])
 refused_in_part start left held s rest taken told read long sent =
-    subst (λ (r : Sampled). IsBroken (started start r) held (s.history ++ entry.Close 0 why.TooLong ∷ entry.End ∷ [])) read.run (long_in_part start left s rest taken told read long held sent)
+    subst (λ (r : Run). IsBroken (started start r) held (s.history ++ entry.Close 0 why.TooLong ∷ entry.End ∷ [])) read.run (long_in_part start left s rest taken told read long held sent)
 
 -- ---- no more bytes are served
 
-module _ (start : Start) (left : Option (List ℕ)) (s : Served) (rest : List ℕ) (taken : ℕ) (told : List ℕ) (read : HasRead start left s rest taken told) (more : List ℕ) (none : packets rest ≡ []) (done : later start left s rest taken told read more ≡ []) where
+module _ (start : Start) (left : Option (List ℕ)) (s : Conversation) (rest : List ℕ) (taken : ℕ) (told : List ℕ) (read : HasRead start left s rest taken told) (more : List ℕ) (none : packets rest ≡ []) (done : later start left s rest taken told read more ≡ []) where
   none_behind : packets (rest ++ later start left s rest taken told read more) ≡ []
   none_behind = ap (λ z. packets (rest ++ z)) done ∙ ap packets (append-nil rest) ∙ none
 
@@ -239,7 +227,7 @@ module _ (start : Start) (left : Option (List ℕ)) (s : Served) (rest : List �
   unfolding has_too_long
   is_short = too_long_there start left s rest taken told read more ∙ ap has_too_long none_behind
 
-  solo_short : solo_history (run_of s.run) (all start left s rest taken told read more) ≡ closing (run_of s.run) (all start left s rest taken told read more) s.history
+  solo_short : solo_history s.run (all start left s rest taken told read more) ≡ closing s.run (all start left s rest taken told read more) s.history
   unfolding wholes
   solo_short = solo_here start left s rest taken told read more (ap wholes none_behind)
 
@@ -257,7 +245,7 @@ take_no n bytes is = ap (λ z. take z bytes) is
 limit_words : (told : List ℕ) → told ++ last_words why.Limit ≡ told
 limit_words told = append-nil told
 
-module _ (start : Start) (left : Option (List ℕ)) (s : Served) (rest piece : List ℕ) (taken : ℕ) (told : List ℕ) (read : HasRead start (prepend_known piece left) s rest taken told) (none : packets rest ≡ []) (full : taken ≡ input_limit) (some : 0 < length piece) where
+module _ (start : Start) (left : Option (List ℕ)) (s : Conversation) (rest piece : List ℕ) (taken : ℕ) (told : List ℕ) (read : HasRead start (prepend_known piece left) s rest taken told) (none : packets rest ≡ []) (full : taken ≡ input_limit) (some : 0 < length piece) (one : length piece ≤ 1) where
   over_all : List ℕ
   over_all = all start (prepend_known piece left) s rest taken told read (piece ++ bytes_left left)
 
@@ -281,19 +269,22 @@ module _ (start : Start) (left : Option (List ℕ)) (s : Served) (rest piece : L
   unfolding over_all
   over_packets = packets_all start (prepend_known piece left) s rest taken told read (piece ++ bytes_left left)
 
-  solo_over : solo_history (run_of s.run) over_all ≡ s.history ++ entry.Close 0 why.Limit ∷ entry.End ∷ []
+  solo_over : solo_history s.run over_all ≡ s.history ++ entry.Close 0 why.Limit ∷ entry.End ∷ []
   unfolding over_all
-  solo_over = solo_short start (prepend_known piece left) s rest taken told read (piece ++ bytes_left left) none none_later ∙ closing_limit (run_of s.run) over_all s.history over_short is_over
+  solo_over = solo_short start (prepend_known piece left) s rest taken told read (piece ++ bytes_left left) none none_later ∙ closing_limit s.run over_all s.history over_short is_over
 
-  over_whole : (held : Option (List ℕ)) → held ≡ append_known start.held told → IsWhole (started start s.run) left held (s.history ++ entry.Close 0 why.Limit ∷ entry.End ∷ []) ending.Limit
+  over_read : length (read.given ++ piece) ≡ input_limit + 1
+  over_read = (let e : length read.given ≡ taken = read.count in omega (arith, e, full, some, one, length-append read.given piece))
+
+  over_whole : (held : Option (List ℕ)) → held ≡ append_known start.held told → IsWhole (started start s.run) left held (s.history ++ entry.Close 0 why.Limit ∷ entry.End ∷ []) (read.given ++ piece) ending.Limit
   over_whole held sent =
       whole_of s over_all read.done (wholes (packets (rest ++ later start (prepend_known piece left) s rest taken told read (piece ++ bytes_left left)))) told read.served.has_said over_packets why.Limit
-      start.left left start.held held ending.Limit over_input (ending_limit over_all over_short is_over) (tt {0}) solo_over (sent ∙ ap (λ z. append_known start.held z) (sym (limit_words told)))
+      start.left left start.held held (read.given ++ piece) ending.Limit over_input (ending_limit over_all over_short is_over) over_read solo_over (sent ∙ ap (λ z. append_known start.held z) (sym (limit_words told)))
 
-pub at_limit : (start : Start) (left held : Option (List ℕ)) (s : Served) (rest piece : List ℕ) (taken : ℕ) → IsReading start (prepend_known piece left) held s rest taken → taken ≡ input_limit → 0 < length piece
-    → IsWhole start left held (s.history ++ entry.Close 0 why.Limit ∷ entry.End ∷ []) ending.Limit
-at_limit start left held s rest piece taken (told, read, sent, none) full some =
-    subst (λ (r : Sampled). IsWhole (started start r) left held (s.history ++ entry.Close 0 why.Limit ∷ entry.End ∷ []) ending.Limit) read.run (over_whole start left s rest piece taken told read none full some held sent)
+pub at_limit : (start : Start) (left held : Option (List ℕ)) (s : Conversation) (rest piece : List ℕ) (taken : ℕ) (reading : IsReading start (prepend_known piece left) held s rest taken) → taken ≡ input_limit → 0 < length piece → length piece ≤ 1
+    → IsWhole start left held (s.history ++ entry.Close 0 why.Limit ∷ entry.End ∷ []) (reading.1.given ++ piece) ending.Limit
+at_limit start left held s rest piece taken (told, read, sent, none) full some one =
+    subst (λ (r : Run). IsWhole (started start r) left held (s.history ++ entry.Close 0 why.Limit ∷ entry.End ∷ []) (read.given ++ piece) ending.Limit) read.run (over_whole start left s rest piece taken told read none full some one held sent)
 
 -- ---- the end of the input
 
@@ -301,16 +292,11 @@ take_none : (n : ℕ) → take {A = ℕ} n [] ≡ []
 take_none zero = refl
 take_none (suc n) = refl
 
-none_left : (left : Option (List ℕ)) → IsAtEnd left → bytes_left left ≡ []
-unfolding bytes_left
-none_left None ends = refl
-none_left (Some bytes) ends = ends
-
 -- what was asked for is recorded
-abbrev ran_out : Served → Served
-ran_out s = record s { history = batches (facts_of (run_of s.run)) (run_of s.run).count s.history }
+abbrev pub ran_out : Conversation → Conversation
+ran_out s = record s { history = batches (facts_of s.run) s.run.count s.history }
 
-module _ (start : Start) (left : Option (List ℕ)) (s : Served) (rest : List ℕ) (taken : ℕ) (told text : List ℕ) (read : HasRead start left s rest taken told) (none : packets rest ≡ []) (ends : IsAtEnd left) (has : HasSaid read.done (ran_out s) (told ++ text)) where
+module _ (start : Start) (left : Option (List ℕ)) (s : Conversation) (rest : List ℕ) (taken : ℕ) (told text : List ℕ) (read : HasRead start left s rest taken told) (none : packets rest ≡ []) (ends : IsAtEnd left) (has : HasSaid read.done (ran_out s) (told ++ text)) where
   end_all : List ℕ
   end_all = all start left s rest taken told read (bytes_left left)
 
@@ -334,36 +320,36 @@ module _ (start : Start) (left : Option (List ℕ)) (s : Served) (rest : List �
   unfolding end_all
   end_packets = packets_all start left s rest taken told read (bytes_left left)
 
-  solo_end : solo_history (run_of s.run) end_all ≡ (ran_out s).history ++ entry.Close 0 why.Ended ∷ entry.End ∷ []
+  solo_end : solo_history s.run end_all ≡ (ran_out s).history ++ entry.Close 0 why.Ended ∷ entry.End ∷ []
   unfolding end_all
-  solo_end = solo_short start left s rest taken told read (bytes_left left) none end_later ∙ closing_ended (run_of s.run) end_all s.history end_short end_within
+  solo_end = solo_short start left s rest taken told read (bytes_left left) none end_later ∙ closing_ended s.run end_all s.history end_short end_within
 
-  end_whole : (held : Option (List ℕ)) → held ≡ append_known start.held (told ++ text) → IsWhole (started start s.run) left held ((ran_out s).history ++ entry.Close 0 why.Ended ∷ entry.End ∷ []) ending.Served
+  end_whole : (held : Option (List ℕ)) → held ≡ append_known start.held (told ++ text) → IsWhole (started start s.run) left held ((ran_out s).history ++ entry.Close 0 why.Ended ∷ entry.End ∷ []) read.given ending.Served
   end_whole held sent =
       whole_of (ran_out s) end_all read.done (wholes (packets (rest ++ later start left s rest taken told read (bytes_left left)))) (told ++ text) has end_packets why.Ended
-      start.left left start.held held ending.Served end_input (ending_ended end_all end_short end_within) (inl ends) solo_end (sent ∙ ap (λ z. append_known start.held z) (sym (append-nil (told ++ text))))
+      start.left left start.held held read.given ending.Served end_input (ending_ended end_all end_short end_within) (inl ends) solo_end (sent ∙ ap (λ z. append_known start.held z) (sym (append-nil (told ++ text))))
 
   end_broken : (held : Option (List ℕ)) → IsSentInPart start.held held (told ++ text) → IsBroken (started start s.run) held ((ran_out s).history ++ entry.Close 0 why.Fault ∷ entry.End ∷ [])
   end_broken held sent =
       cut_off (ran_out s) end_all read.done (wholes (packets (rest ++ later start left s rest taken told read (bytes_left left)))) (told ++ text) (entry.Close 0 why.Ended ∷ entry.End ∷ []) start.left start.held held has end_packets end_input solo_end sent
 
 -- what the recording puts behind the text is said to the client
-abbrev SaysOn : Served → Served → List ℕ → Type 0
+abbrev pub SaysOn : Conversation → Conversation → List ℕ → Type 0
 SaysOn s next text = (ps : List (List ℕ)) (sent : List ℕ) → HasSaid ps s (sent ++ []) → HasSaid ps next (sent ++ text)
 
-said_on : (s next : Served) (text : List ℕ) (ps : List (List ℕ)) (told : List ℕ) → SaysOn s next text → next ≡ ran_out s → HasSaid ps s told → HasSaid ps (ran_out s) (told ++ text)
+pub said_on : (s next : Conversation) (text : List ℕ) (ps : List (List ℕ)) (told : List ℕ) → SaysOn s next text → next ≡ ran_out s → HasSaid ps s told → HasSaid ps (ran_out s) (told ++ text)
 said_on s next text ps told says is has = subst (λ n. HasSaid ps n (told ++ text)) is (says ps told (subst (λ z. HasSaid ps s z) (sym (append-nil told)) has))
 
-pub finished : (start : Start) (left here held : Option (List ℕ)) (s next : Served) (rest : List ℕ) (taken : ℕ) (text : List ℕ) → IsReading start left here s rest taken → IsAtEnd left → next ≡ ran_out s → SaysOn s next text → held ≡ append_known here text
-    → IsWhole start left held (next.history ++ entry.Close 0 why.Ended ∷ entry.End ∷ []) ending.Served
+pub finished : (start : Start) (left here held : Option (List ℕ)) (s next : Conversation) (rest : List ℕ) (taken : ℕ) (text : List ℕ) (reading : IsReading start left here s rest taken) → IsAtEnd left → next ≡ ran_out s → SaysOn s next text → held ≡ append_known here text
+    → IsWhole start left held (next.history ++ entry.Close 0 why.Ended ∷ entry.End ∷ []) reading.1.given ending.Served
 finished start left here held s next rest taken text (told, read, sent, none) ends is says all_sent =
-    subst (λ (n : Served). IsWhole start left held (n.history ++ entry.Close 0 why.Ended ∷ entry.End ∷ []) ending.Served) (sym is)
-    (subst (λ (r : Sampled). IsWhole (started start r) left held ((ran_out s).history ++ entry.Close 0 why.Ended ∷ entry.End ∷ []) ending.Served) read.run
+    subst (λ (n : Conversation). IsWhole start left held (n.history ++ entry.Close 0 why.Ended ∷ entry.End ∷ []) read.given ending.Served) (sym is)
+    (subst (λ (r : Run). IsWhole (started start r) left held ((ran_out s).history ++ entry.Close 0 why.Ended ∷ entry.End ∷ []) read.given ending.Served) read.run
     (end_whole start left s rest taken told text read none ends (said_on s next text read.done told says is read.served.has_said) held (sent_more start.held here held told text sent all_sent)))
 
-pub finished_in_part : (start : Start) (left here held : Option (List ℕ)) (s next : Served) (rest : List ℕ) (taken : ℕ) (text : List ℕ) → IsReading start left here s rest taken → IsAtEnd left → next ≡ ran_out s → SaysOn s next text → TookPart here held text
+pub finished_in_part : (start : Start) (left here held : Option (List ℕ)) (s next : Conversation) (rest : List ℕ) (taken : ℕ) (text : List ℕ) → IsReading start left here s rest taken → IsAtEnd left → next ≡ ran_out s → SaysOn s next text → TookPart here held text
     → IsBroken start held (next.history ++ entry.Close 0 why.Fault ∷ entry.End ∷ [])
 finished_in_part start left here held s next rest taken text (told, read, sent, none) ends is says part =
-    subst (λ (n : Served). IsBroken start held (n.history ++ entry.Close 0 why.Fault ∷ entry.End ∷ [])) (sym is)
-    (subst (λ (r : Sampled). IsBroken (started start r) held ((ran_out s).history ++ entry.Close 0 why.Fault ∷ entry.End ∷ [])) read.run
+    subst (λ (n : Conversation). IsBroken start held (n.history ++ entry.Close 0 why.Fault ∷ entry.End ∷ [])) (sym is)
+    (subst (λ (r : Run). IsBroken (started start r) held ((ran_out s).history ++ entry.Close 0 why.Fault ∷ entry.End ∷ [])) read.run
     (end_broken start left s rest taken told text read none ends (said_on s next text read.done told says is read.served.has_said) held (sent_part start.held here held told text sent part)))

@@ -16,7 +16,8 @@ use Rattle.hall_core.specs.declared.entry.Goal.{Goal}
 use Rattle.hall_core.specs.declared.entry.Goal.TheVariants as goal
 use Rattle.proto_replies.specs.declared.answer.RunState.{RunState}
 use Rattle.proto_replies.specs.declared.answer.RunState.TheVariants as state
-use Rattle.solo_session.specs.Reply.{is_finished, is_running, moment_of, state_of}
+use Rattle.session_core.specs.Replies.{is_finished, is_running, state_of}
+use Rattle.hall_core.specs.Moments.{moment_of}
 use Rattle.solo_session.specs.Session.{IsAhead, IsServing}
 
 pub serving_within : (run : Run) (s : State) → IsServing run s → s.n ≤ run.count

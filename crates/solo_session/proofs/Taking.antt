@@ -18,7 +18,8 @@ use Rattle.hall_core.specs.declared.entry.Goal.TheVariants as goal
 use Rattle.hall_core.specs.declared.entry.Why.{Why}
 use Rattle.hall_core.proofs.Histories.{legal_taken}
 use Rattle.hall_core.proofs.Progress.{replay-push}
-use Rattle.solo_session.specs.Pace.{batch_size, greatest, hits_goal, may_record, may_stop, most_next, record_entries, record_of, recorded, some_hits, stop_entries, stopped}
+use Rattle.solo_session.specs.Pace.{batch_size, most_next, record_entries, recorded, stop_entries, stopped}
+use Rattle.hall_core.specs.Batches.{greatest, hits_goal, may_record, may_stop, record_of, some_hits}
 use Rattle.solo_session.specs.Session.{IsAhead, IsServing}
 
 -- ---- what is recorded

@@ -1,6 +1,3 @@
-pub mod Refused
-pub mod Reply
-pub mod Said
 pub mod Pace
 pub mod Session
 pub mod Solo

@@ -3,13 +3,15 @@ use Rattle.std.specs.Prelude.{◌≡◌, ℕ, ◌≤◌, List, [], ◌++◌, len
 use Rattle.std.specs.Io.KnownBytes.{append_known, prepend_known}
 use Rattle.frame_zero.specs.Packets.{packets, whole}
 use Rattle.solo_session.specs.Pace.{input_limit}
-use Rattle.solo_session.specs.Session.{HasServed, Served}
+use Rattle.solo_session.specs.Session.{HasServed, Conversation}
 use Rattle.solo_session.specs.Solo.{IsCause, IsEnded, Start}
 use Rattle.solo_session.specs.declared.solo.Ending.{Ending}
+use Rattle.solo_session.specs.declared.solo.Ending.TheVariants as ending
+use Rattle.outside.specs.Sink.{TookPart}
 
 -- so many bytes were read, of which the rest is in no packet yet; the packets of the others were served, and this is what
 -- they were to be told
-pub record HasRead (start : Start) (left : Option (List ℕ)) (s : Served) (rest : List ℕ) (taken : ℕ) (told : List ℕ) : Type 0 where
+pub record HasRead (start : Start) (left : Option (List ℕ)) (s : Conversation) (rest : List ℕ) (taken : ℕ) (told : List ℕ) : Type 0 where
   pub run : s.run ≡ start.run
   pub given : List ℕ
   pub count : length given ≡ taken
@@ -21,12 +23,12 @@ pub record HasRead (start : Start) (left : Option (List ℕ)) (s : Served) (rest
   pub served : HasServed done s told
 
 -- the same, no packet is in the rest, and all that was to be told came behind what the output held
-abbrev pub IsReading : Start → Option (List ℕ) → Option (List ℕ) → Served → List ℕ → ℕ → Type 0
+abbrev pub IsReading : Start → Option (List ℕ) → Option (List ℕ) → Conversation → List ℕ → ℕ → Type 0
 IsReading start left held s rest taken =
     (told : List ℕ) × HasRead start left s rest taken told × (held ≡ append_known start.held told) × (packets rest ≡ [])
 
 -- the session goes on, or has ended
-abbrev pub IsTurn : Start → Option (List ℕ) → Option (List ℕ) → Served → List ℕ → ℕ → Option Ending → Type 0
+abbrev pub IsTurn : Start → Option (List ℕ) → Option (List ℕ) → Conversation → List ℕ → ℕ → Option Ending → Type 0
 IsTurn start left held s rest taken None = IsReading start left held s rest taken
 IsTurn start left held s rest taken (Some ends) = IsEnded start left held s.history ends
 
@@ -34,3 +36,10 @@ IsTurn start left held s rest taken (Some ends) = IsEnded start left held s.hist
 abbrev pub IsOutputCause : Option Ending → ℕ → ℕ → Type 0
 IsOutputCause None output output_now = output_now ≡ output
 IsOutputCause (Some ends) output output_now = (input : ℕ) → IsCause ends input input output output_now
+
+-- what a text left of the output, by how the session ended behind it
+abbrev pub IsSentBy : Ending → Option (List ℕ) → Option (List ℕ) → List ℕ → Type 0
+IsSentBy ending.Served before now text = now ≡ append_known before text
+IsSentBy ending.Limit before now text = ⊥
+IsSentBy ending.InputFailed before now text = ⊥
+IsSentBy ending.OutputFailed before now text = TookPart before now text

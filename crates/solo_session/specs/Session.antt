@@ -1,7 +1,6 @@
 -- What a contract sees of a session, and what holds of one while its client is served.
 use Rattle.std.specs.Prelude.{◌≡◌, ⊤, ℕ, ◌<◌, ◌≤◌, List, [], ◌∷◌, ◌++◌, length, map, Bool, true, false, if◌then◌else◌}
 use Rattle.circuit.specs.Rounds.{Run, run_length}
-use Rattle.flat_run.specs.Run.{Sampled, run_of}
 use Rattle.frame_zero.specs.Packets.{packets, too_long, whole}
 use Rattle.hall_core.specs.Facts.{facts_of}
 use Rattle.hall_core.specs.Laws.{Taken}
@@ -12,16 +11,25 @@ use Rattle.hall_core.specs.declared.entry.Entry.{Entry}
 use Rattle.hall_core.specs.declared.entry.Entry.TheVariants as entry
 use Rattle.hall_core.specs.declared.entry.Goal.{Goal}
 use Rattle.hall_core.specs.declared.entry.Goal.TheVariants as goal
-use Rattle.solo_session.specs.Refused.{Reading, is_greeted}
-use Rattle.solo_session.specs.Reply.{act_in, event}
-use Rattle.solo_session.specs.Said.{Agrees, packets_in, said}
+use Rattle.session_core.specs.Refusals.{Reading, is_greeted}
+use Rattle.session_core.specs.Replies.{act_in, event}
+use Rattle.session_core.specs.Said.{Agrees, packets_in, said}
 use Rattle.solo_session.specs.Pace.{opening, with_packets}
 
-pub record Served : Type 0 where
-  -- the circuit and its samples
-  pub run : Sampled
+-- what a session keeps: the samples that it follows, the history so far, and whether the client was greeted
+pub record Over (F : Type 0) : Type 0 where
+  pub samples : F
   pub history : List Entry
   pub greeted : Bool
+
+-- the same, by the circuit and its samples
+pub record Conversation : Type 0 where
+  pub run : Run
+  pub history : List Entry
+  pub greeted : Bool
+
+abbrev pub conversation : {F : Type 0} → (F → Run) → Over F → Conversation
+conversation run_of s = record { run = run_of s.samples; history = s.history; greeted = s.greeted }
 
 -- a goal goes beyond what is recorded, and no further than there are samples
 abbrev pub IsAhead : Run → State → Goal → Type 0
@@ -47,30 +55,25 @@ is_run_act (act.Run m kinds) = true
 is_run_act act.Pause = false
 
 -- the entry of a packet
-abbrev pub packet_entry : Served → Reading → Entry
-packet_entry s read = entry.Packet 0 (act_in (run_of s.run) s.greeted read)
-
--- the events of entries that are no packets
-unfoldable pub events : Run → Bool → State → List Entry → List ℕ
-events run listens s [] = []
-events run listens s (e ∷ es) = event run listens s e ++ events run listens (after s e) es
+abbrev pub packet_entry : Conversation → Reading → Entry
+packet_entry s read = entry.Packet 0 (act_in s.run s.greeted read)
 
 -- these are the client's packets so far, what it was said is theirs, and the history is legal
-pub record HasSaid (packets : List (List ℕ)) (s : Served) (bytes : List ℕ) : Type 0 where
-  pub serving : IsServing (run_of s.run) (replay s.history)
+pub record HasSaid (packets : List (List ℕ)) (s : Conversation) (bytes : List ℕ) : Type 0 where
+  pub serving : IsServing s.run (replay s.history)
   pub greeted : s.greeted ≡ is_greeted packets
   pub counted : packets_in 0 s.history ≡ length packets
-  pub taken : Taken (facts_of (run_of s.run)) s.history
-  pub agrees : Agrees (run_of s.run) packets 0 s.history
-  pub said : bytes ≡ said (run_of s.run) packets 0 s.history
+  pub taken : Taken (facts_of s.run) s.history
+  pub agrees : Agrees s.run packets 0 s.history
+  pub said : bytes ≡ said s.run packets 0 s.history
 
 -- the same, and the history is that of the pace
-pub record HasServed (packets : List (List ℕ)) (s : Served) (bytes : List ℕ) : Type 0 where
-  pub paced : s.history ≡ with_packets (run_of s.run) [] opening packets
+pub record HasServed (packets : List (List ℕ)) (s : Conversation) (bytes : List ℕ) : Type 0 where
+  pub paced : s.history ≡ with_packets s.run [] opening packets
   pub has_said : HasSaid packets s bytes
 
 -- packets that stood first in some bytes were served, and these bytes are left
-pub record IsServedSoFar (bytes left : List ℕ) (before now : Served) (text_before text_now : List ℕ) : Type 0 where
+pub record IsServedSoFar (bytes left : List ℕ) (before now : Conversation) (text_before text_now : List ℕ) : Type 0 where
   pub run : now.run ≡ before.run
   pub done : List (List ℕ)
   -- whatever more there is to the bytes
@@ -78,7 +81,7 @@ pub record IsServedSoFar (bytes left : List ℕ) (before now : Served) (text_bef
   pub served : (earlier : List (List ℕ)) (sent : List ℕ) → HasServed earlier before (sent ++ text_before) → HasServed (earlier ++ done) now (sent ++ text_now)
 
 -- all of them were, up to a part that is too long where there is one
-pub record IsServedOf (bytes left : List ℕ) (ends : Bool) (before now : Served) (text_before text_now : List ℕ) : Type 0 where
+pub record IsServedOf (bytes left : List ℕ) (ends : Bool) (before now : Conversation) (text_before text_now : List ℕ) : Type 0 where
   pub so_far : IsServedSoFar bytes left before now text_before text_now
-  pub serving : IsServing (run_of now.run) (replay now.history)
+  pub serving : IsServing now.run (replay now.history)
   pub rest : packets left ≡ (if ends then too_long ∷ [] else [])

@@ -1,7 +1,7 @@
 //! What a packet asks, and why it is refused.
 ghost use Rattle.std.specs.Prelude.{◌≡◌, ◌≢◌, ◌||◌, Err, Ok, Some, false, true};
 ghost use Rattle.proto_packets.specs.declared.fault.PacketFault.TheVariants as faults;
-ghost use Rattle.solo_session.specs.Refused as refusals;
+ghost use Rattle.session_core.specs.Refusals as refusals;
 
 use proto_packets::{PacketFault, Request};
 use proto_replies::ErrorKind;

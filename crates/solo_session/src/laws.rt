@@ -7,23 +7,7 @@ ghost use Rattle.hall_core.specs.Replay.{replay};
 ghost use Rattle.hall_core.specs.declared.entry.Entry.{Entry};
 ghost use Rattle.hall_core.specs.declared.entry.Goal.TheVariants.{Hold as Held};
 ghost use Rattle.solo_session.specs.Pace.{batches, opening, packets_of, solo_history, with_packets};
-ghost use Rattle.solo_session.specs.Said.{Agrees, given_by, moments, packets_in, replies, said};
-
-/// What a history says to a client is what its entries give to it, one behind the other.
-#[tactic(auto, using(crate::proofs::Sayings::said_push))]
-pub fn law_of_entries()
-    ensures { (run : Run) → (packets : List (List ℕ)) → (c : ℕ) → (history : List Entry) → (e : Entry)
-        → said run packets c (history ++ e ∷ []) ≡ said run packets c history ++ given_by run packets c history e }
-{}
-
-/// A client's replies depend on its own packets and on what stands just after each of their entries: whatever else two
-/// legal histories of a run have, and whatever the other clients send, the replies are the same.
-#[tactic(auto, using(crate::proofs::Isolated::isolated))]
-pub fn law_of_isolation()
-    ensures { (run : Run) → (packets : List (List ℕ)) → (c : ℕ) → (one other : List Entry)
-        → Legal (facts_of run) one → Legal (facts_of run) other → moments c one ≡ moments c other
-        → replies run packets c one ≡ replies run packets c other }
-{}
+ghost use Rattle.session_core.specs.Said.{Agrees, given_by, moments, packets_in, replies, said};
 
 /// The history that a client's bytes give is legal. Its packet entries do what the client's packets ask, and each
 /// packet has its entry where sample 0 settles. At the end of the bytes, as many batches as there are samples leave no goal.

@@ -7,6 +7,6 @@ mod laws;
 mod session;
 mod solo;
 
-pub use laws::{law_of_entries, law_of_isolation, law_of_pace};
+pub use laws::law_of_pace;
 pub use session::Session;
-pub use solo::{Ending, serve};
+pub use solo::{Ending, answer_piece, serve};

@@ -1,26 +1,27 @@
 //! The session of the one client.
 ghost use Rattle.std.specs.Prelude.{◌≡◌, ◌≢◌, ℕ, ◌+◌, ◌-◌, ◌<◌, ◌≤◌, List, [], ◌∷◌, ◌++◌, length, true, false, Err, Ok, IfOk, OnOk, ◌&&◌, ◌||◌, if◌then◌else◌};
 ghost use Rattle.circuit.specs.Rounds.{run_length};
-ghost use Rattle.flat_run.specs.Run.{run_of};
+ghost use Rattle.hall_core.specs.Batches.{may_stop, record_of};
 ghost use Rattle.hall_core.specs.Facts.{facts_of};
 ghost use Rattle.hall_core.specs.Hall.{entries as entries_of};
 ghost use Rattle.hall_core.specs.Laws.{is_recording};
 ghost use Rattle.hall_core.specs.Legal.{allowed, may_act};
+ghost use Rattle.hall_core.specs.Moments.{moment_of};
 ghost use Rattle.hall_core.specs.Replay.{after, reaches, replay};
 ghost use Rattle.hall_core.specs.declared.entry.Entry.TheVariants as entries;
 ghost use Rattle.proto_packets.specs.Asked.{asked};
 ghost use Rattle.proto_packets.specs.declared.fault.PacketFault.TheVariants as faults;
-ghost use Rattle.proto_replies.specs.Text.{packet_text};
+ghost use Rattle.proto_replies.specs.Data.{packet_text};
 ghost use Rattle.solo_session.specs.Pace as paces;
-ghost use Rattle.solo_session.specs.Refused as refusals;
-ghost use Rattle.solo_session.specs.Reply as replies;
-ghost use Rattle.solo_session.specs.Said.{last_words};
-ghost use Rattle.solo_session.specs.Session.{HasSaid, HasServed, IsRunning, IsServedOf, IsServing, events, packet_entry};
+ghost use Rattle.session_core.specs.Refusals as refusals;
+ghost use Rattle.session_core.specs.Replies as replies;
+ghost use Rattle.session_core.specs.Said.{last_words};
+ghost use Rattle.solo_session.specs.Session.{HasSaid, HasServed, IsRunning, IsServedOf, IsServing, packet_entry, conversation};
+ghost use Rattle.session_core.specs.Replies.{events};
 
 use crate::asked::{error_of, is_greeted_by, is_want_of_memory};
-use flat_run::FlatRun;
 use frame_zero::{Frame, Framer};
-use hall_core::{Act, Entry, Goal, Hall, History, Why};
+use hall_core::{Act, Entry, Followed, Goal, Hall, History, Why};
 use proto_packets::{PacketFault, Request, read_packet};
 use proto_replies::{Answer, Cause, ErrorKind, RunState, reply};
 use sim_base::{NoMemory, Time};
@@ -35,34 +36,33 @@ const CLIENT: u64 = 0;
 
 /// The history of a run with one client. What is to be sent is put behind a text, in order.
 #[derive(Drop)]
-pub struct Session {
-    run: FlatRun,
+pub struct Session<F: Followed> {
+    samples: F,
     hall: Hall,
     greeted: bool,
     unsettled: bool,
 }
 
-impl Model for Session {
+impl<F: Followed> Model for Session<F> {
     ghost use Rattle.std.specs.Prelude.{◌≡◌};
-    ghost use Rattle.flat_run.specs.Run.{run_of};
     ghost use Rattle.hall_core.specs.Replay.{replay};
-    ghost use Rattle.solo_session.specs.Session.{Served};
+    ghost use Rattle.solo_session.specs.Session.{Over};
 
-    ghost Value = { Served };
+    ghost Value = { Over F };
 
-    ghost view = { λ s. record { run = s.run; history = s.hall.history; greeted = s.greeted } };
+    ghost view = { λ s. record { samples = s.samples; history = s.hall.history; greeted = s.greeted } };
 
-    ghost invariant = { λ s. (s.hall.count ≡ (run_of s.run).count) × (s.unsettled ≡ (replay s.hall.history).unsettled) };
+    ghost invariant = { λ s. (s.hall.count ≡ (F.run s.samples).count) × (s.unsettled ≡ (replay s.hall.history).unsettled) };
 }
 
-impl Session {
+impl<F: Followed> Session<F> {
     /// The session of a run before sample 0.
-    pub fn new(alloc: Global, run: FlatRun) -> Result<Session, NoMemory>
-        ensures { IfOk result (λ s. s ≡ record { run = run; history = []; greeted = false }) }
+    pub fn new(alloc: Global, samples: F) -> Result<Session<F>, NoMemory>
+        ensures { IfOk result (λ s. s ≡ record { samples = samples; history = []; greeted = false }) }
     {
-        let hall = Hall::new(alloc, run.count())?;
+        let hall = Hall::new(alloc, samples.count())?;
         Ok(Session {
-            run,
+            samples,
             hall,
             greeted: false,
             unsettled: false,
@@ -71,7 +71,7 @@ impl Session {
 
     /// Adds an entry that may come next.
     fn enter(&mut self, entry: Entry) -> Result<(), NoMemory>
-        requires { allowed (run_of self.old.run).count (replay self.old.history) entry ≡ true }
+        requires { allowed (F.run self.old.samples).count (replay self.old.history) entry ≡ true }
         ensures { OnOk result (self.new ≡ record self.old { history = self.old.history ++ entry ∷ [] }) }
     {
         self.hall.step(entry)?;
@@ -85,12 +85,12 @@ impl Session {
     /// whether the client is.
     pub fn open(&mut self) -> Result<bool, NoMemory>
         requires { self.old.history ≡ [] }
-        ensures opened { result ≡ Ok true → self.old.greeted ≡ false → HasServed [] self.new [] }
-        ensures served { result ≡ Ok true → (1 ≤ run_length (run_of self.old.run)) × (self.new ≡ record self.old { history = paces.opening }) }
-        ensures unsettled { result ≡ Ok false → (run_length (run_of self.old.run) ≡ 0) × (self.new ≡ record self.old { history = entries.Unsettled ∷ entries.End ∷ [] }) }
+        ensures opened { result ≡ Ok true → self.old.greeted ≡ false → HasServed [] (conversation F.run self.new) [] }
+        ensures served { result ≡ Ok true → (1 ≤ run_length (F.run self.old.samples)) × (self.new ≡ record self.old { history = paces.opening }) }
+        ensures unsettled { result ≡ Ok false → (run_length (F.run self.old.samples) ≡ 0) × (self.new ≡ record self.old { history = entries.Unsettled ∷ entries.End ∷ [] }) }
     {
-        let first = self.run.count().min(1);
-        let settles = self.run.reach(first) == 1;
+        let first = self.samples.count().min(1);
+        let settles = self.samples.reach(first) == 1;
         if settles {
             self.enter(Entry::Record(1, false))?;
             self.enter(Entry::Open(CLIENT))?;
@@ -103,21 +103,21 @@ impl Session {
 
     /// The latest sample's time.
     fn latest(&self) -> Time
-        requires { IsServing (run_of self.now.run) (replay self.now.history) }
-        ensures { result ≡ replies.time_of (run_of self.now.run) ((replay self.now.history).n - 1) }
+        requires { IsServing (F.run self.now.samples) (replay self.now.history) }
+        ensures { result ≡ replies.time_of (F.run self.now.samples) ((replay self.now.history).n - 1) }
     {
-        self.run.time(self.hall.n() - 1)
+        self.samples.time(self.hall.n() - 1)
     }
 
     fn is_finished(&self) -> bool
-        ensures { result ≡ replies.is_finished (run_of self.now.run) (replies.moment_of (replay self.now.history)) }
+        ensures { result ≡ replies.is_finished (F.run self.now.samples) (moment_of (replay self.now.history)) }
     {
-        self.hall.n() == self.run.count() || self.unsettled
+        self.hall.n() == self.samples.count() || self.unsettled
     }
 
     fn status(&self) -> Answer
-        requires { IsServing (run_of self.now.run) (replay self.now.history) }
-        ensures { result ≡ replies.status (run_of self.now.run) (replies.moment_of (replay self.now.history)) }
+        requires { IsServing (F.run self.now.samples) (replay self.now.history) }
+        ensures { result ≡ replies.status (F.run self.now.samples) (moment_of (replay self.now.history)) }
     {
         let running = matches!(self.hall.goal(), Goal::To(_, _));
         let state = match running {
@@ -133,31 +133,31 @@ impl Session {
     }
 
     fn next_time(&self, state: RunState) -> Option<Time>
-        requires serving { IsServing (run_of self.now.run) (replay self.now.history) }
-        requires state { state ≡ replies.state_of (run_of self.now.run) (replies.moment_of (replay self.now.history)) }
-        ensures { result ≡ replies.next_time (run_of self.now.run) (replay self.now.history).n state }
+        requires serving { IsServing (F.run self.now.samples) (replay self.now.history) }
+        requires state { state ≡ replies.state_of (F.run self.now.samples) (moment_of (replay self.now.history)) }
+        ensures { result ≡ replies.next_time (F.run self.now.samples) (replay self.now.history).n state }
     {
         match state {
             RunState::Finished => None,
-            _ => Some(self.run.time(self.hall.n())),
+            _ => Some(self.samples.time(self.hall.n())),
         }
     }
 
     /// How many samples a run goes to.
     fn goal_of(&self, until: Option<Time>) -> u64
-        ensures goal { result ≡ replies.goal_of (run_of self.now.run) until }
-        ensures most { result ≤ (run_of self.now.run).count }
+        ensures goal { result ≡ replies.goal_of (F.run self.now.samples) until }
+        ensures most { result ≤ (F.run self.now.samples).count }
     {
         match until {
-            Some(time) => self.run.count_until(time),
-            None => self.run.count(),
+            Some(time) => self.samples.count_until(time),
+            None => self.samples.count(),
         }
     }
 
     /// What a packet does.
     fn act_of(&self, read: &Result<Request, PacketFault>, error: Option<ErrorKind>) -> Act
-        ensures act { result ≡ replies.act_unless error (replies.act_asked (run_of self.now.run) read.now) }
-        ensures may { may_act (run_of self.now.run).count result ≡ true }
+        ensures act { result ≡ replies.act_unless error (replies.act_asked (F.run self.now.samples) read.now) }
+        ensures may { may_act (F.run self.now.samples).count result ≡ true }
     {
         match (error, read) {
             (None, Ok(Request::RunSimulation { until, kinds })) => {
@@ -168,8 +168,8 @@ impl Session {
     }
 
     fn answer_to(&self, read: &Result<Request, PacketFault>, error: Option<ErrorKind>) -> Answer
-        requires serving { IsServing (run_of self.now.run) (replay self.now.history) }
-        ensures { result ≡ replies.answer_unless error (replies.answer_to (run_of self.now.run) (replies.moment_of (replay self.now.history)) read.now) }
+        requires serving { IsServing (F.run self.now.samples) (replay self.now.history) }
+        ensures { result ≡ replies.answer_unless error (replies.answer_to (F.run self.now.samples) (moment_of (replay self.now.history)) read.now) }
     {
         match (error, read) {
             (Some(kind), _) => Answer::Error(kind),
@@ -183,8 +183,8 @@ impl Session {
 
     /// Puts the event of an entry behind the text, which was entered last.
     fn push_event(&self, alloc: Global, entry: Entry, text: &mut Vec<u8>) -> Result<(), NoMemory>
-        requires { IsServing (run_of self.now.run) (replay self.now.history) }
-        ensures { OnOk result (text.new.items ≡ text.old.items ++ packet_text (replies.event_of (run_of self.now.run) (replies.moment_of (replay self.now.history)) entry)) }
+        requires { IsServing (F.run self.now.samples) (replay self.now.history) }
+        ensures { OnOk result (text.new.items ≡ text.old.items ++ packet_text (replies.event_of (F.run self.now.samples) (moment_of (replay self.now.history)) entry)) }
     {
         let time = self.latest();
         let event = if self.is_finished() {
@@ -203,12 +203,12 @@ impl Session {
         entry: Entry,
         text: &mut Vec<u8>,
     ) -> Result<(), NoMemory>
-        requires allowed { allowed (run_of self.old.run).count (replay self.old.history) entry ≡ true }
+        requires allowed { allowed (F.run self.old.samples).count (replay self.old.history) entry ≡ true }
         requires running { IsRunning (replay self.old.history).goal }
         requires recording { is_recording entry ≡ true }
-        requires serving { IsServing (run_of self.old.run) (after (replay self.old.history) entry) }
+        requires serving { IsServing (F.run self.old.samples) (after (replay self.old.history) entry) }
         ensures session { OnOk result (self.new ≡ record self.old { history = self.old.history ++ entry ∷ [] }) }
-        ensures text { OnOk result (text.new.items ≡ text.old.items ++ replies.event (run_of self.old.run) self.old.greeted (replay self.old.history) entry) }
+        ensures text { OnOk result (text.new.items ≡ text.old.items ++ replies.event (F.run self.old.samples) self.old.greeted (replay self.old.history) entry) }
     {
         self.enter(entry)?;
         if self.greeted && self.hall.goal() == Goal::Hold {
@@ -219,25 +219,25 @@ impl Session {
 
     /// How many samples a batch records.
     fn most_next(&mut self) -> u64
-        requires { IsServing (run_of self.old.run) (replay self.old.history) }
-        ensures most { result ≡ paces.most_next (facts_of (run_of self.old.run)) (replay self.old.history) }
-        ensures entry { paces.record_of (facts_of (run_of self.old.run)) (replay self.old.history) result ≡ entries.Record result false }
+        requires { IsServing (F.run self.old.samples) (replay self.old.history) }
+        ensures most { result ≡ paces.most_next (facts_of (F.run self.old.samples)) (replay self.old.history) }
+        ensures entry { record_of (facts_of (F.run self.old.samples)) (replay self.old.history) result ≡ entries.Record result false }
         ensures same { self.new ≡ self.old }
     {
         let n = self.hall.n();
         match self.hall.goal() {
-            Goal::To(goal, _) => self.run.reach(n + (goal - n).min(BATCH)) - n,
+            Goal::To(goal, _) => self.samples.reach(n + (goal - n).min(BATCH)) - n,
             _ => 0,
         }
     }
 
     /// Enters as many samples as the goal lets, at most a batch.
     fn record(&mut self, alloc: Global, text: &mut Vec<u8>) -> Result<(), NoMemory>
-        requires serving { IsServing (run_of self.old.run) (replay self.old.history) }
-        ensures session { OnOk result (self.new ≡ record self.old { history = paces.recorded (facts_of (run_of self.old.run)) self.old.history }) }
-        ensures serving { OnOk result (IsServing (run_of self.new.run) (replay self.new.history)) }
-        ensures text { OnOk result (text.new.items ≡ text.old.items ++ events (run_of self.old.run) self.old.greeted (replay self.old.history)
-            (paces.record_entries (facts_of (run_of self.old.run)) (replay self.old.history) (paces.most_next (facts_of (run_of self.old.run)) (replay self.old.history)))) }
+        requires serving { IsServing (F.run self.old.samples) (replay self.old.history) }
+        ensures session { OnOk result (self.new ≡ record self.old { history = paces.recorded (facts_of (F.run self.old.samples)) self.old.history }) }
+        ensures serving { OnOk result (IsServing (F.run self.new.samples) (replay self.new.history)) }
+        ensures text { OnOk result (text.new.items ≡ text.old.items ++ events (F.run self.old.samples) self.old.greeted (replay self.old.history)
+            (paces.record_entries (facts_of (F.run self.old.samples)) (replay self.old.history) (paces.most_next (facts_of (F.run self.old.samples)) (replay self.old.history)))) }
     {
         let more = self.most_next();
         if more > 0 {
@@ -248,24 +248,24 @@ impl Session {
 
     /// Whether the next sample is asked for and does not settle.
     fn may_stop(&mut self) -> bool
-        requires { IsServing (run_of self.old.run) (replay self.old.history) }
-        ensures stop { result ≡ paces.may_stop (facts_of (run_of self.old.run)) (replay self.old.history) }
+        requires { IsServing (F.run self.old.samples) (replay self.old.history) }
+        ensures stop { result ≡ may_stop (facts_of (F.run self.old.samples)) (replay self.old.history) }
         ensures same { self.new ≡ self.old }
     {
         let n = self.hall.n();
         match self.hall.goal() {
-            Goal::To(_, _) => self.run.reach(n + 1) == n,
+            Goal::To(_, _) => self.samples.reach(n + 1) == n,
             _ => false,
         }
     }
 
     /// Enters that the next sample does not settle, where it is asked for and does not.
     fn stop(&mut self, alloc: Global, text: &mut Vec<u8>) -> Result<(), NoMemory>
-        requires serving { IsServing (run_of self.old.run) (replay self.old.history) }
-        ensures session { OnOk result (self.new ≡ record self.old { history = paces.stopped (facts_of (run_of self.old.run)) self.old.history }) }
-        ensures serving { OnOk result (IsServing (run_of self.new.run) (replay self.new.history)) }
-        ensures text { OnOk result (text.new.items ≡ text.old.items ++ events (run_of self.old.run) self.old.greeted (replay self.old.history)
-            (paces.stop_entries (facts_of (run_of self.old.run)) (replay self.old.history))) }
+        requires serving { IsServing (F.run self.old.samples) (replay self.old.history) }
+        ensures session { OnOk result (self.new ≡ record self.old { history = paces.stopped (facts_of (F.run self.old.samples)) self.old.history }) }
+        ensures serving { OnOk result (IsServing (F.run self.new.samples) (replay self.new.history)) }
+        ensures text { OnOk result (text.new.items ≡ text.old.items ++ events (F.run self.old.samples) self.old.greeted (replay self.old.history)
+            (paces.stop_entries (facts_of (F.run self.old.samples)) (replay self.old.history))) }
     {
         if self.may_stop() {
             self.enter_and_tell(alloc, Entry::Unsettled, text)?;
@@ -292,8 +292,8 @@ impl Session {
         entry: Entry,
         text: &mut Vec<u8>,
     ) -> Result<(), NoMemory>
-        requires { IsServing (run_of self.now.run) (replay self.now.history) }
-        ensures { OnOk result (text.new.items ≡ text.old.items ++ (if reached && self.now.greeted then packet_text (replies.event_of (run_of self.now.run) (replies.moment_of (replay self.now.history)) entry) else [])) }
+        requires { IsServing (F.run self.now.samples) (replay self.now.history) }
+        ensures { OnOk result (text.new.items ≡ text.old.items ++ (if reached && self.now.greeted then packet_text (replies.event_of (F.run self.now.samples) (moment_of (replay self.now.history)) entry) else [])) }
     {
         if reached && self.greeted {
             self.push_event(alloc, entry, text)?;
@@ -309,13 +309,13 @@ impl Session {
         act: Act,
         text: &mut Vec<u8>,
     ) -> Result<(), NoMemory>
-        requires serving { IsServing (run_of self.old.run) (replay self.old.history) }
+        requires serving { IsServing (F.run self.old.samples) (replay self.old.history) }
         requires memory { read.now ≢ Err faults.NoMemory }
-        requires act { act ≡ replies.act_in (run_of self.old.run) self.old.greeted read.now }
-        requires may { may_act (run_of self.old.run).count act ≡ true }
+        requires act { act ≡ replies.act_in (F.run self.old.samples) self.old.greeted read.now }
+        requires may { may_act (F.run self.old.samples).count act ≡ true }
         ensures session { OnOk result (self.new ≡ record self.old { history = self.old.history ++ entries.Packet 0 act ∷ []; greeted = self.old.greeted || refusals.greets read.now }) }
-        ensures serving { OnOk result (IsServing (run_of self.new.run) (replay self.new.history)) }
-        ensures text { OnOk result (text.new.items ≡ text.old.items ++ packet_text (replies.answer_in (run_of self.old.run) self.old.greeted (replies.moment_of (after (replay self.old.history) (entries.Packet 0 act))) read.now)) }
+        ensures serving { OnOk result (IsServing (F.run self.new.samples) (replay self.new.history)) }
+        ensures text { OnOk result (text.new.items ≡ text.old.items ++ packet_text (replies.answer_in (F.run self.old.samples) self.old.greeted (moment_of (after (replay self.old.history) (entries.Packet 0 act))) read.now)) }
     {
         let error = error_of(self.greeted, read);
         self.enter(Entry::Packet(CLIENT, act))?;
@@ -332,12 +332,12 @@ impl Session {
         read: &Result<Request, PacketFault>,
         text: &mut Vec<u8>,
     ) -> Result<(), NoMemory>
-        requires serving { IsServing (run_of self.old.run) (replay self.old.history) }
+        requires serving { IsServing (F.run self.old.samples) (replay self.old.history) }
         requires memory { read.now ≢ Err faults.NoMemory }
-        ensures session { OnOk result (self.new ≡ record self.old { history = self.old.history ++ packet_entry self.old read.now ∷ []; greeted = self.old.greeted || refusals.greets read.now }) }
-        ensures serving { OnOk result (IsServing (run_of self.new.run) (replay self.new.history)) }
-        ensures text { OnOk result (text.new.items ≡ text.old.items ++ (packet_text (replies.answer_in (run_of self.old.run) self.old.greeted (replies.moment_of (after (replay self.old.history) (packet_entry self.old read.now))) read.now)
-            ++ replies.event (run_of self.old.run) (self.old.greeted || refusals.greets read.now) (replay self.old.history) (packet_entry self.old read.now))) }
+        ensures session { OnOk result (self.new ≡ record self.old { history = self.old.history ++ packet_entry (conversation F.run self.old) read.now ∷ []; greeted = self.old.greeted || refusals.greets read.now }) }
+        ensures serving { OnOk result (IsServing (F.run self.new.samples) (replay self.new.history)) }
+        ensures text { OnOk result (text.new.items ≡ text.old.items ++ (packet_text (replies.answer_in (F.run self.old.samples) self.old.greeted (moment_of (after (replay self.old.history) (packet_entry (conversation F.run self.old) read.now))) read.now)
+            ++ replies.event (F.run self.old.samples) (self.old.greeted || refusals.greets read.now) (replay self.old.history) (packet_entry (conversation F.run self.old) read.now))) }
     {
         let act = self.act_of(read, error_of(self.greeted, read));
         let reached = self.reaches(act);
@@ -353,11 +353,11 @@ impl Session {
         packet: &[u8],
         text: &mut Vec<u8>,
     ) -> Result<(), NoMemory>
-        requires serving { IsServing (run_of self.old.run) (replay self.old.history) }
-        ensures session { OnOk result (self.new ≡ record self.old { history = self.old.history ++ packet_entry self.old (asked packet.now) ∷ []; greeted = self.old.greeted || refusals.greets (asked packet.now) }) }
-        ensures text { OnOk result (text.new.items ≡ text.old.items ++ (packet_text (replies.answer_in (run_of self.old.run) self.old.greeted (replies.moment_of (after (replay self.old.history) (packet_entry self.old (asked packet.now)))) (asked packet.now))
-            ++ replies.event (run_of self.old.run) (self.old.greeted || refusals.greets (asked packet.now)) (replay self.old.history) (packet_entry self.old (asked packet.now)))) }
-        ensures serving { OnOk result (IsServing (run_of self.new.run) (replay self.new.history)) }
+        requires serving { IsServing (F.run self.old.samples) (replay self.old.history) }
+        ensures session { OnOk result (self.new ≡ record self.old { history = self.old.history ++ packet_entry (conversation F.run self.old) (asked packet.now) ∷ []; greeted = self.old.greeted || refusals.greets (asked packet.now) }) }
+        ensures text { OnOk result (text.new.items ≡ text.old.items ++ (packet_text (replies.answer_in (F.run self.old.samples) self.old.greeted (moment_of (after (replay self.old.history) (packet_entry (conversation F.run self.old) (asked packet.now)))) (asked packet.now))
+            ++ replies.event (F.run self.old.samples) (self.old.greeted || refusals.greets (asked packet.now)) (replay self.old.history) (packet_entry (conversation F.run self.old) (asked packet.now)))) }
+        ensures serving { OnOk result (IsServing (F.run self.new.samples) (replay self.new.history)) }
     {
         let read = read_packet(alloc, packet);
         if is_want_of_memory(&read) {
@@ -374,11 +374,11 @@ impl Session {
         packet: &[u8],
         text: &mut Vec<u8>,
     ) -> Result<(), NoMemory>
-        requires serving { IsServing (run_of self.old.run) (replay self.old.history) }
-        ensures served { OnOk result ((packets : List (List ℕ)) (sent : List ℕ) → HasServed packets self.old (sent ++ text.old.items)
-            → HasServed (packets ++ packet.now ∷ []) self.new (sent ++ text.new.items)) }
-        ensures serving { OnOk result (IsServing (run_of self.new.run) (replay self.new.history)) }
-        ensures run { OnOk result (self.new.run ≡ self.old.run) }
+        requires serving { IsServing (F.run self.old.samples) (replay self.old.history) }
+        ensures served { OnOk result ((packets : List (List ℕ)) (sent : List ℕ) → HasServed packets (conversation F.run self.old) (sent ++ text.old.items)
+            → HasServed (packets ++ packet.now ∷ []) (conversation F.run self.new) (sent ++ text.new.items)) }
+        ensures serving { OnOk result (IsServing (F.run self.new.samples) (replay self.new.history)) }
+        ensures run { OnOk result (self.new.samples ≡ self.old.samples) }
     {
         self.take_packet(alloc, packet, text)?;
         self.record(alloc, text)?;
@@ -393,8 +393,9 @@ impl Session {
         framer: &mut Framer,
         text: &mut Vec<u8>,
     ) -> Result<bool, NoMemory>
-        requires serving { IsServing (run_of self.old.run) (replay self.old.history) }
-        ensures served { IfOk result (λ too_long. IsServedOf framer.old framer.new too_long self.old self.new text.old.items text.new.items) }
+        requires serving { IsServing (F.run self.old.samples) (replay self.old.history) }
+        ensures served { IfOk result (λ too_long. IsServedOf framer.old framer.new too_long (conversation F.run self.old) (conversation F.run self.new) text.old.items text.new.items) }
+        ensures samples { OnOk result (self.new.samples ≡ self.old.samples) }
     {
         loop {
             match framer.take() {
@@ -407,12 +408,12 @@ impl Session {
 
     /// Records batches until no goal is left.
     pub fn run_out(&mut self, alloc: Global, text: &mut Vec<u8>) -> Result<(), NoMemory>
-        requires serving { IsServing (run_of self.old.run) (replay self.old.history) }
-        ensures session { OnOk result (self.new ≡ record self.old { history = paces.batches (facts_of (run_of self.old.run)) (run_of self.old.run).count self.old.history }) }
-        ensures serving { OnOk result (IsServing (run_of self.new.run) (replay self.new.history)) }
-        ensures served { OnOk result ((packets : List (List ℕ)) (sent : List ℕ) → HasSaid packets self.old (sent ++ text.old.items) → HasSaid packets self.new (sent ++ text.new.items)) }
+        requires serving { IsServing (F.run self.old.samples) (replay self.old.history) }
+        ensures session { OnOk result (self.new ≡ record self.old { history = paces.batches (facts_of (F.run self.old.samples)) (F.run self.old.samples).count self.old.history }) }
+        ensures serving { OnOk result (IsServing (F.run self.new.samples) (replay self.new.history)) }
+        ensures served { OnOk result ((packets : List (List ℕ)) (sent : List ℕ) → HasSaid packets (conversation F.run self.old) (sent ++ text.old.items) → HasSaid packets (conversation F.run self.new) (sent ++ text.new.items)) }
     {
-        for _batch in 0..self.run.count() {
+        for _batch in 0..self.samples.count() {
             self.record(alloc, text)?;
             self.stop(alloc, text)?;
         }
@@ -421,7 +422,7 @@ impl Session {
 
     /// Lets the client go, and ends the history.
     pub fn close(&mut self, alloc: Global, why: Why, text: &mut Vec<u8>) -> Result<(), NoMemory>
-        requires serving { IsServing (run_of self.old.run) (replay self.old.history) }
+        requires serving { IsServing (F.run self.old.samples) (replay self.old.history) }
         ensures session { OnOk result (self.new ≡ record self.old { history = self.old.history ++ entries.Close 0 why ∷ entries.End ∷ [] }) }
         ensures text { OnOk result (text.new.items ≡ text.old.items ++ last_words why) }
     {

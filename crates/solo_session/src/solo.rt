@@ -1,19 +1,20 @@
 //! One client over a source and a sink.
 ghost use Rattle.std.specs.Prelude.{◌≡◌, ◌≢◌, ℕ, ◌+◌, ◌-◌, ◌<◌, ◌≤◌, List, [], ◌∷◌, ◌++◌, length, take, Option, None, Some, Ok, IfOk, OnErr, OnOk};
 ghost use Rattle.std.specs.Io.KnownBytes.{IsAtEnd, append_known, prepend_known};
-ghost use Rattle.flat_run.specs.Run.{run_of};
-ghost use Rattle.frame_zero.specs.Packets.{packets, too_long};
+ghost use Rattle.frame_zero.specs.Packets.{packets};
 ghost use Rattle.hall_core.specs.Replay.{replay};
 ghost use Rattle.hall_core.specs.declared.entry.Entry.TheVariants as entries;
 ghost use Rattle.outside.specs.Source.{Gives, IsGot, SourceCause};
-ghost use Rattle.solo_session.specs.Pace.{input_limit};
-ghost use Rattle.solo_session.specs.Reading.{HasRead, IsOutputCause, IsReading, IsTurn};
-ghost use Rattle.solo_session.specs.Session.{HasServed, IsServing};
+ghost use Rattle.hall_core.specs.declared.entry.Why.TheVariants as whys;
+ghost use Rattle.session_core.specs.Said.{last_words};
+ghost use Rattle.solo_session.specs.Pace.{input_limit, piece_limit};
+ghost use Rattle.solo_session.specs.Reading.{IsOutputCause, IsReading, IsSentBy, IsTurn};
+ghost use Rattle.solo_session.specs.Session.{HasServed, IsServing, conversation};
 ghost use Rattle.solo_session.specs.Solo.{IsCause, IsEnded, IsWanting, Start};
 
 use crate::session::Session;
 use frame_zero::Framer;
-use hall_core::Why;
+use hall_core::{Followed, Why};
 use outside::{Got, Sink, Source, put_all};
 use sim_base::NoMemory;
 use std::alloc::Global;
@@ -54,26 +55,35 @@ fn read_piece<I: Source>(input: &mut I, piece: &mut [u8], taken: usize) -> Got
 }
 
 /// Lets the client go, and ends the history, where nothing more is to be sent.
-fn leave(alloc: Global, session: &mut Session, why: Why) -> Result<(), NoMemory>
-    requires { IsServing (run_of session.old.run) (replay session.old.history) }
+fn leave<F: Followed>(alloc: Global, session: &mut Session<F>, why: Why) -> Result<(), NoMemory>
+    requires { IsServing (F.run session.old.samples) (replay session.old.history) }
     ensures { OnOk result (session.new ≡ record session.old { history = session.old.history ++ entries.Close 0 why ∷ entries.End ∷ [] }) }
 {
     let mut text = Vec::new(alloc);
     session.close(alloc, why, &mut text)
 }
 
+/// Lets the client go for a fault, and ends the history.
+fn break_off<F: Followed>(alloc: Global, session: &mut Session<F>) -> Result<Ending, NoMemory>
+    requires { IsServing (F.run session.old.samples) (replay session.old.history) }
+    ensures session { OnOk result (session.new ≡ record session.old { history = session.old.history ++ entries.Close 0 whys.Fault ∷ entries.End ∷ [] }) }
+    ensures ending { IfOk result (λ ending. ending ≡ Ending.OutputFailed) }
+{
+    leave(alloc, session, Why::Fault)?;
+    Ok(Ending::OutputFailed)
+}
+
 /// Ends the session at a part that is too long, and sends the text with the error behind it.
-fn refuse<O: Sink>(
+fn refuse<F: Followed, O: Sink>(
     alloc: Global,
-    session: &mut Session,
+    session: &mut Session<F>,
     text: &mut Vec<u8>,
     out: &mut O,
 ) -> Result<Ending, NoMemory>
-    requires { IsServing (run_of session.old.run) (replay session.old.history) }
-    ensures ended { IfOk result (λ ending. (start : Start) (left : Option (List ℕ)) (rest told : List ℕ) (taken : ℕ) → HasRead start left session.old rest taken (told ++ text.old.items) → packets rest ≡ too_long ∷ []
-        → O.held out.old ≡ append_known start.held told → IsEnded start left (O.held out.new) session.new.history ending) }
+    requires { IsServing (F.run session.old.samples) (replay session.old.history) }
+    ensures session { OnOk result (session.new ≡ record session.old { history = session.old.history ++ entries.Close 0 whys.TooLong ∷ entries.End ∷ [] }) }
+    ensures sent { IfOk result (λ ending. IsSentBy ending (O.held out.old) (O.held out.new) (text.old.items ++ last_words whys.TooLong)) }
     ensures wanting { OnErr result (O.held out.new ≡ O.held out.old) }
-    ensures run { OnOk result (session.new.run ≡ session.old.run) }
     ensures cause { IfOk result (λ ending. IsOutputCause (Some ending) (O.faults out.old) (O.faults out.new)) }
     ensures later { O.faults out.old ≤ O.faults out.new }
 {
@@ -84,21 +94,23 @@ fn refuse<O: Sink>(
     }
 }
 
-/// Serves the packets that end in the next piece, and sends what they are answered. Says how the session
-/// ended, where it does not go on.
-fn take_piece<O: Sink>(
+/// Serves the packets that end in the next piece that was read, and sends all that they are answered. Says how the
+/// session ended, where it does not go on: nothing more is to be read then.
+pub fn answer_piece<F: Followed, O: Sink>(
     alloc: Global,
-    session: &mut Session,
+    session: &mut Session<F>,
     framer: &mut Framer,
     piece: &[u8],
     out: &mut O,
 ) -> Result<Option<Ending>, NoMemory>
-    requires { IsServing (run_of session.old.run) (replay session.old.history) }
-    ensures turn { IfOk result (λ turn. (start : Start) (left : Option (List ℕ)) (taken : ℕ) → IsReading start (prepend_known piece.now left) (O.held out.old) session.old framer.old taken → taken + length piece.now ≤ input_limit
-        → IsTurn start left (O.held out.new) session.new framer.new (taken + length piece.now) turn) }
-    ensures wanting { OnErr result ((start : Start) (left : Option (List ℕ)) (taken : ℕ) → IsReading start (prepend_known piece.now left) (O.held out.old) session.old framer.old taken → taken + length piece.now ≤ input_limit
+    requires serving { IsServing (F.run session.old.samples) (replay session.old.history) }
+    requires few { length piece.now ≤ piece_limit }
+    // Where all that was due for what was read before was sent, all that is due is sent, this piece read too.
+    ensures turn { IfOk result (λ turn. (start : Start) (left : Option (List ℕ)) (taken : ℕ) → IsReading start (prepend_known piece.now left) (O.held out.old) (conversation F.run session.old) framer.old taken → taken + length piece.now ≤ input_limit
+        → IsTurn start left (O.held out.new) (conversation F.run session.new) framer.new (taken + length piece.now) turn) }
+    ensures wanting { OnErr result ((start : Start) (left : Option (List ℕ)) (taken : ℕ) → IsReading start (prepend_known piece.now left) (O.held out.old) (conversation F.run session.old) framer.old taken → taken + length piece.now ≤ input_limit
         → IsWanting start (O.held out.new)) }
-    ensures run { OnOk result (session.new.run ≡ session.old.run) }
+    ensures run { OnOk result (session.new.samples ≡ session.old.samples) }
     ensures cause { IfOk result (λ turn. IsOutputCause turn (O.faults out.old) (O.faults out.new)) }
     ensures later { O.faults out.old ≤ O.faults out.new }
 {
@@ -111,20 +123,24 @@ fn take_piece<O: Sink>(
     match put_all(out, &text) {
         Ok(()) => Ok(None),
         Err(_) => {
-            leave(alloc, session, Why::Fault)?;
-            Ok(Some(Ending::OutputFailed))
+            let broken = break_off(alloc, session)?;
+            Ok(Some(broken))
         }
     }
 }
 
 /// Ends the session at the end of the client's bytes: what is asked for is recorded, and all is sent.
-fn finish<O: Sink>(alloc: Global, session: &mut Session, out: &mut O) -> Result<Ending, NoMemory>
-    requires { IsServing (run_of session.old.run) (replay session.old.history) }
-    ensures ended { IfOk result (λ ending. (start : Start) (left : Option (List ℕ)) (rest : List ℕ) (taken : ℕ) → IsReading start left (O.held out.old) session.old rest taken → IsAtEnd left
+fn finish<F: Followed, O: Sink>(
+    alloc: Global,
+    session: &mut Session<F>,
+    out: &mut O,
+) -> Result<Ending, NoMemory>
+    requires { IsServing (F.run session.old.samples) (replay session.old.history) }
+    ensures ended { IfOk result (λ ending. (start : Start) (left : Option (List ℕ)) (rest : List ℕ) (taken : ℕ) → IsReading start left (O.held out.old) (conversation F.run session.old) rest taken → IsAtEnd left
         → IsEnded start left (O.held out.new) session.new.history ending) }
-    ensures wanting { OnErr result ((start : Start) (left : Option (List ℕ)) (rest : List ℕ) (taken : ℕ) → IsReading start left (O.held out.old) session.old rest taken → IsAtEnd left
+    ensures wanting { OnErr result ((start : Start) (left : Option (List ℕ)) (rest : List ℕ) (taken : ℕ) → IsReading start left (O.held out.old) (conversation F.run session.old) rest taken → IsAtEnd left
         → IsWanting start (O.held out.new)) }
-    ensures run { OnOk result (session.new.run ≡ session.old.run) }
+    ensures run { OnOk result (session.new.samples ≡ session.old.samples) }
     ensures cause { IfOk result (λ ending. IsOutputCause (Some ending) (O.faults out.old) (O.faults out.new)) }
     ensures later { O.faults out.old ≤ O.faults out.new }
 {
@@ -136,8 +152,8 @@ fn finish<O: Sink>(alloc: Global, session: &mut Session, out: &mut O) -> Result<
             Ok(Ending::Served)
         }
         Err(_) => {
-            leave(alloc, session, Why::Fault)?;
-            Ok(Ending::OutputFailed)
+            let ending = break_off(alloc, session)?;
+            Ok(ending)
         }
     }
 }
@@ -145,16 +161,16 @@ fn finish<O: Sink>(alloc: Global, session: &mut Session, out: &mut O) -> Result<
 /// Serves a client that was just opened: reads its bytes from the source, up to the limit of how many are
 /// read, and sends what its packets are answered to the sink. The history and what is sent do not depend on
 /// how reads and writes were cut.
-pub fn serve<I: Source, O: Sink>(
+pub fn serve<F: Followed, I: Source, O: Sink>(
     alloc: Global,
-    session: &mut Session,
+    session: &mut Session<F>,
     input: &mut I,
     out: &mut O,
 ) -> Result<Ending, NoMemory>
-    requires { HasServed [] session.old [] }
-    ensures ended { IfOk result (λ ending. IsEnded (record { run = session.old.run; left = I.left input.old; held = O.held out.old }) (I.left input.new) (O.held out.new) session.new.history ending) }
-    ensures wanting { OnErr result (IsWanting (record { run = session.old.run; left = I.left input.old; held = O.held out.old }) (O.held out.new)) }
-    ensures run { OnOk result (session.new.run ≡ session.old.run) }
+    requires { HasServed [] (conversation F.run session.old) [] }
+    ensures ended { IfOk result (λ ending. IsEnded (record { run = F.run session.old.samples; left = I.left input.old; held = O.held out.old }) (I.left input.new) (O.held out.new) session.new.history ending) }
+    ensures wanting { OnErr result (IsWanting (record { run = F.run session.old.samples; left = I.left input.old; held = O.held out.old }) (O.held out.new)) }
+    ensures run { OnOk result (session.new.samples ≡ session.old.samples) }
     ensures cause { IfOk result (λ ending. IsCause ending (I.faults input.old) (I.faults input.new) (O.faults out.old) (O.faults out.new)) }
     ensures later_input { I.faults input.old ≤ I.faults input.new }
     ensures later_output { O.faults out.old ≤ O.faults out.new }
@@ -171,7 +187,7 @@ pub fn serve<I: Source, O: Sink>(
             Got::Bytes(count) => {
                 taken += count;
                 let given = &piece[..count];
-                if let Some(ending) = take_piece(alloc, session, &mut framer, given, out)? {
+                if let Some(ending) = answer_piece(alloc, session, &mut framer, given, out)? {
                     return Ok(ending);
                 }
             }

@@ -1,6 +1,6 @@
 use Rattle.std.proofs.Common.{ap, subst}
 use Rattle.flat_run.specs.Run.{Sampled}
-use Rattle.solo_session.specs.Session.{Served}
+use Rattle.solo_session.specs.Session.{Over}
 use Rattle.solo_session.proofs.Leaving.{on_err}
 use Rattle.cxxsim.specs.Outside.{told}
 use Rattle.cxxsim.specs.Solo.{IsHeld}
@@ -19,4 +19,4 @@ returns-in_err-text-clause-wanting g c =
     (told (g.I.Source.left c.args.input.now) (g.I.Source.left c.hold.new.input) (g.I.Source.faults c.args.input.now) (g.I.Source.faults c.hold.new.input))
     (told (g.O.Sink.held c.args.out.now) (g.O.Sink.held c.hold.new.out) (g.O.Sink.faults c.args.out.now) (g.O.Sink.faults c.hold.new.out))
     c.hold.new.session.history c.in_ok-ending.ending)
-    (ap (λ (s : Served). s.run) c.in_ok-session.ensures) c.in_ok-ending.ensures.held))
+    (ap (λ (s : Over Sampled). s.samples) c.in_ok-session.ensures) c.in_ok-ending.ensures.held))

@@ -1,17 +1,16 @@
 use Rattle.std.proofs.Common.{◌≡◌, ◌≤◌, ◌-◌}
 use Rattle.std.specs.Prelude.{vec_len}
-use Rattle.flat_run.specs.Run.{run_of}
 use Rattle.hall_core.specs.Replay.{replay}
 use Rattle.solo_session.specs.Pace.{input_limit}
 use Rattle.solo_session.specs.Reading.{IsReading}
-use Rattle.solo_session.specs.Session.{IsServing}
+use Rattle.solo_session.specs.Session.{IsServing, conversation}
 use Rattle.solo_session.proofs.solo.serve.Given as goal
 
 abbrev pub invariant-loop-session : goal.invariant-loop-session
 invariant-loop-session g l = record {
-  reading : IsReading (record { run = l.fn.session.run; left = g.I.Source.left l.fn.input; held = g.O.Sink.held l.fn.out }) (g.I.Source.left l.input) (g.O.Sink.held l.out) l.session l.framer l.taken;
-  serving : IsServing (run_of l.session.run) (replay l.session.history);
-  run : l.session.run ≡ l.fn.session.run;
+  reading : IsReading (record { run = g.F.Followed.run l.fn.session.samples; left = g.I.Source.left l.fn.input; held = g.O.Sink.held l.fn.out }) (g.I.Source.left l.input) (g.O.Sink.held l.out) (conversation g.F.Followed.run l.session) l.framer l.taken;
+  serving : IsServing (g.F.Followed.run l.session.samples) (replay l.session.history);
+  run : l.session.samples ≡ l.fn.session.samples;
   within : l.taken ≤ input_limit;
   room : vec_len l.piece ≡ 65536;
   input : g.I.Source.faults l.input ≡ g.I.Source.faults l.fn.input;

@@ -1,7 +1,7 @@
-use Rattle.std.proofs.Common.{◌≡◌, ◌+◌, Some, None, true, false, arith, sym, ◌∙◌, ap, add-one, length}
+use Rattle.std.proofs.Common.{◌≡◌, ◌+◌, Some, None, arith, sym, ◌∙◌, ap, add-one}
 use Rattle.std.proofs.lemmas.Bool.{false≢true}
 use Rattle.std.specs.Prelude.{is_some}
-use Rattle.circuit.specs.Rounds.{Run, run_length, standing_after}
+use Rattle.circuit.specs.Rounds.{Run, standing_after}
 use Rattle.flat_run.specs.Run.{run_under}
 use Rattle.flat_run.proofs.Steps.{goes_on}
 use Rattle.flat_run.proofs.progress.Progress.go_on.Goals as goal

@@ -1,4 +1,4 @@
-use Rattle.std.proofs.Common.{◌≡◌, ◌<◌, ◌+◌, ◌-◌, ℕ, Bool, true, false, arith, ◌∙◌, sym, ap, refl, min, inl, inr, if◌then◌else◌, Some}
+use Rattle.std.proofs.Common.{◌≡◌, ◌<◌, ◌+◌, ◌-◌, ℕ, Bool, true, false, arith, ◌∙◌, sym, refl, inl, inr, if◌then◌else◌}
 use Rattle.std.proofs.lemmas.Bool.{cases_Bool, false≢true}
 use Rattle.circuit.specs.Rounds.{Run, run_length}
 use Rattle.flat_run.specs.Run.{run_under}

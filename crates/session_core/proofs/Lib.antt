@@ -1,0 +1,4 @@
+pub mod Sayings
+pub mod Agreeing
+pub mod Isolated
+pub mod Opened

@@ -1,0 +1,130 @@
+-- What a client is sent for a packet, and where a goal is reached.
+use Rattle.std.specs.Prelude.{ℕ, ◌-◌, ◌==◌, List, [], ◌∷◌, ◌++◌, Bool, true, false, ◌&&◌, ◌||◌, Option, Some, None, Ok, Err, if◌then◌else◌}
+use Rattle.circuit.specs.Rounds.{Run}
+use Rattle.hall_core.specs.Samples.{samples_until}
+use Rattle.hall_core.specs.Moments.{Moment, moment_of}
+use Rattle.hall_core.specs.Replay.{State, after, reaches}
+use Rattle.hall_core.specs.declared.entry.Act.{Act}
+use Rattle.hall_core.specs.declared.entry.Act.TheVariants as act
+use Rattle.hall_core.specs.declared.entry.Entry.{Entry}
+use Rattle.hall_core.specs.declared.entry.Entry.TheVariants as entry
+use Rattle.hall_core.specs.declared.entry.Goal.{Goal}
+use Rattle.hall_core.specs.declared.entry.Goal.TheVariants as goal
+use Rattle.proto_packets.specs.Asked.{asked}
+use Rattle.proto_packets.specs.declared.request.Request.TheVariants as request
+use Rattle.proto_replies.specs.Data.{packet_text}
+use Rattle.proto_replies.specs.declared.answer.Answer.{Answer}
+use Rattle.proto_replies.specs.declared.answer.Answer.TheVariants as answer
+use Rattle.proto_replies.specs.declared.answer.Cause.{Cause}
+use Rattle.proto_replies.specs.declared.answer.Cause.TheVariants as cause
+use Rattle.proto_replies.specs.declared.answer.ErrorKind.{ErrorKind}
+use Rattle.proto_replies.specs.declared.answer.ErrorKind.TheVariants as error
+use Rattle.proto_replies.specs.declared.answer.RunState.{RunState}
+use Rattle.proto_replies.specs.declared.answer.RunState.TheVariants as state
+use Rattle.session_core.specs.Refusals.{Reading, error_of, is_greeted, refused}
+
+-- ---- what a packet does
+
+-- how many samples a run goes to: those up to a time, or all
+abbrev pub goal_of : Run → Option ℕ → ℕ
+goal_of run None = run.count
+goal_of run (Some time) = samples_until run.row run.count time
+
+-- what a request does that is not refused
+abbrev pub act_asked : Run → Reading → Act
+act_asked run (Ok (request.RunSimulation until kinds)) = act.Run (goal_of run until) kinds
+act_asked run (Ok (request.Greeting version)) = act.Look
+act_asked run (Ok (request.ListScopes scope)) = act.Look
+act_asked run (Ok (request.ListItems scope)) = act.Look
+act_asked run (Ok (request.ReferenceItems reference items)) = act.Look
+act_asked run (Ok (request.QueryInterval begin end items encoding collapse diagnostics)) = act.Look
+act_asked run (Ok request.Status) = act.Look
+act_asked run (Ok request.PauseSimulation) = act.Look
+act_asked run (Err e) = act.Look
+
+abbrev pub act_unless : Option ErrorKind → Act → Act
+act_unless (Some e) what = act.Look
+act_unless None what = what
+
+-- what a packet does, of a client that was greeted before it or not
+abbrev pub act_in : Run → Bool → Reading → Act
+act_in run greeted read = act_unless (error_of greeted read) (act_asked run read)
+
+-- what a packet behind a client's earlier packets does
+abbrev pub act_of : Run → List (List ℕ) → List ℕ → Act
+act_of run earlier packet = act_in run (is_greeted earlier) (asked packet)
+
+-- ---- replies
+
+-- the time of a sample in femtoseconds
+abbrev pub time_of : Run → ℕ → ℕ
+time_of run k = (run.row k).time
+
+-- all samples are recorded, or the next one does not settle
+abbrev pub is_finished : Run → Moment → Bool
+is_finished run m = (m.n == run.count) || m.unsettled
+
+abbrev pub is_running : Goal → Bool
+is_running goal.Hold = false
+is_running (goal.To g kinds) = true
+is_running goal.Over = false
+
+abbrev pub state_of : Run → Moment → RunState
+state_of run m = if is_running m.goal then state.Running else (if is_finished run m then state.Finished else state.Paused)
+
+-- the time of the next sample, where there is one to come
+abbrev pub next_time : Run → ℕ → RunState → Option ℕ
+next_time run n state.Running = Some (time_of run n)
+next_time run n state.Paused = Some (time_of run n)
+next_time run n state.Finished = None
+
+abbrev pub status : Run → Moment → Answer
+status run m = answer.Status (time_of run (m.n - 1)) (state_of run m) (next_time run m.n (state_of run m))
+
+-- the reply to a request that is not refused; the others are refused always
+abbrev pub answer_to : Run → Moment → Reading → Answer
+answer_to run m (Ok (request.Greeting version)) = answer.Greeting
+answer_to run m (Ok request.Status) = status run m
+answer_to run m (Ok (request.RunSimulation until kinds)) = answer.RunSimulation
+answer_to run m (Ok (request.ListScopes scope)) = answer.Error error.InvalidCommand
+answer_to run m (Ok (request.ListItems scope)) = answer.Error error.InvalidCommand
+answer_to run m (Ok (request.ReferenceItems reference items)) = answer.Error error.InvalidCommand
+answer_to run m (Ok (request.QueryInterval begin end items encoding collapse diagnostics)) = answer.Error error.InvalidCommand
+answer_to run m (Ok request.PauseSimulation) = answer.Error error.InvalidCommand
+answer_to run m (Err e) = answer.Error error.InvalidJson
+
+abbrev pub answer_unless : Option ErrorKind → Answer → Answer
+answer_unless (Some e) a = answer.Error e
+answer_unless None a = a
+
+-- the reply to a packet, of a client that was greeted before it or not
+abbrev pub answer_in : Run → Bool → Moment → Reading → Answer
+answer_in run greeted m read = answer_unless (error_of greeted read) (answer_to run m read)
+
+-- the bytes of the reply to a packet: by what stands just after its entry, and by the client's own earlier packets
+abbrev pub reply : Run → Moment → List (List ℕ) → List ℕ → List ℕ
+reply run m earlier packet = packet_text (answer_unless (refused earlier packet) (answer_to run m (asked packet)))
+
+-- ---- events
+
+abbrev pub cause_of : Entry → Cause
+cause_of (entry.Record m hit) = if hit then cause.UntilDiagnostics else cause.UntilTime
+cause_of (entry.Open c) = cause.UntilTime
+cause_of (entry.Packet c what) = cause.UntilTime
+cause_of entry.Unsettled = cause.UntilTime
+cause_of (entry.Close c why) = cause.UntilTime
+cause_of entry.End = cause.UntilTime
+
+-- the event of an entry that reaches a goal, by what stands just after it
+abbrev pub event_of : Run → Moment → Entry → Answer
+event_of run m e =
+    if is_finished run m then answer.Finished (time_of run (m.n - 1)) else answer.Paused (cause_of e) (time_of run (m.n - 1))
+
+-- the bytes of the event of an entry, for a client that listens
+abbrev pub event : Run → Bool → State → Entry → List ℕ
+event run listens before e = if reaches before e && listens then packet_text (event_of run (moment_of (after before e)) e) else []
+
+-- the events of entries that are no packets
+unfoldable pub events : Run → Bool → State → List Entry → List ℕ
+events run listens s [] = []
+events run listens s (e ∷ es) = event run listens s e ++ events run listens (after s e) es
