@@ -1,13 +1,15 @@
 //! Cells whose ports are written in each way that a circuit may write them.
-ghost use Rattle.std.specs.Prelude.{◌≡◌, ◌≤◌, ◌<◌, ◌+◌, [], ◌∷◌, length, true, IfOk};
+ghost use Rattle.std.specs.Prelude.{◌≡◌, ◌≤◌, ◌<◌, ◌+◌, List, length, true, IfOk};
 ghost use Rattle.circuit.specs.Signal.{sig_width};
 ghost use Rattle.circuit.specs.Valid.{widths_fit};
 ghost use Rattle.circuit.specs.declared.netlist.Piece.TheVariants as piece;
 ghost use Rattle.signal_words.specs.Stores.{IsCellOf};
-ghost use Rattle.signal_words.specs.Values.{IsSignalOf, width_at};
+ghost use Rattle.sim_base.specs.BitValue.{BitValue};
+ghost use Rattle.sim_base.specs.Values.{width_at};
+ghost use Rattle.signal_words.specs.Values.{IsSignalOf};
 
-use circuit::{Cell, Op, Piece, Sig, Store, Values};
-use sim_base::{Bits, NoMemory};
+use circuit::{Cell, Listing, Op, Piece, Sig, Store};
+use sim_base::{Bits, NoMemory, Values};
 use sqlite_items::Items;
 use std::alloc::Global;
 
@@ -29,14 +31,12 @@ pub fn part(net: u32, at: u32, width: u32) -> Piece
     Piece::Part { net, at, width }
 }
 
-/// A signal that holds what a net holds.
-fn signal(alloc: Global, form: Form, nets: &[Bits], net: u32) -> Result<Sig, NoMemory>
-    requires there { net < length nets.now }
-    requires narrow { width_at nets.now net ≤ 65536 }
-    ensures signal { IfOk result (λ sig. IsSignalOf nets.now sig) }
-    ensures width { IfOk result (λ sig. sig_width sig ≡ width_at nets.now net) }
+/// A signal that holds a value, which a net has, too.
+fn signal(alloc: Global, form: Form, value: &Bits, net: u32) -> Result<Sig, NoMemory>
+    requires narrow { value.now.width ≤ 65536 }
+    ensures signal { IfOk result (λ sig. (nets : List BitValue) → net < length nets → width_at nets net ≡ value.now.width → IsSignalOf nets sig) }
+    ensures width { IfOk result (λ sig. sig_width sig ≡ value.now.width) }
 {
-    let value = &nets[net as usize];
     let width = value.width();
     let pieces = match form {
         Form::Constant => vec![in alloc; Piece::Const(value.try_clone(alloc)?)]?,
@@ -52,17 +52,6 @@ fn signal(alloc: Global, form: Form, nets: &[Bits], net: u32) -> Result<Sig, NoM
         }
     };
     Ok(Items::from_vec(pieces))
-}
-
-/// The values of three nets.
-fn nets_of(alloc: Global, a: Bits, b: Bits, s: Bits) -> Result<Values<Bits>, NoMemory>
-    ensures { IfOk result (λ nets. nets ≡ a ∷ b ∷ s ∷ []) }
-{
-    let mut nets = Values::new(alloc);
-    nets.push(a)?;
-    nets.push(b)?;
-    nets.push(s)?;
-    Ok(nets)
 }
 
 /// A cell whose ports hold these values in a form, and a store that has its output alone.
@@ -85,24 +74,23 @@ pub fn cell_and_store(
 {
     let (a, b, s) = ports;
     let width = old.width();
-    let nets = nets_of(alloc, a, b, s)?;
     let cell = Cell {
         op,
-        a: signal(alloc, form, nets.as_slice(), 0)?,
-        b: signal(alloc, form, nets.as_slice(), 1)?,
-        s: signal(alloc, form, nets.as_slice(), 2)?,
+        a: signal(alloc, form, &a, 0)?,
+        b: signal(alloc, form, &b, 1)?,
+        s: signal(alloc, form, &s, 2)?,
         a_signed: signed.0,
         b_signed: signed.1,
         width,
         offset,
     };
-    let mut cells = Values::new(alloc);
-    cells.push(old)?;
+    let values = vec![in alloc; a, b, s]?;
+    let outputs = vec![in alloc; old]?;
     let store = Store {
-        nets,
-        cells,
-        regs: Values::new(alloc),
-        reads: Values::new(alloc),
+        nets: Values::of(alloc, values.as_slice())?,
+        cells: Values::of(alloc, outputs.as_slice())?,
+        regs: Values::new(alloc, [].as_slice())?,
+        reads: Listing::new(alloc),
     };
     Ok((cell, store))
 }

@@ -5,7 +5,7 @@ use signal_words::{
     SigReader, SigWord, one_piece, one_word, sig_bit, sig_field, sig_width, sig_word, whole_value,
     word_of,
 };
-use sim_base::{Bits, NoMemory};
+use sim_base::{Bits, BitsView, NoMemory, Values};
 use std::alloc::Global;
 use std::test::Fail;
 
@@ -22,10 +22,11 @@ fn value(alloc: Global, width: u32, number: u64) -> Result<Bits, NoMemory>
 #[test]
 fn pieces_are_put_together_from_the_least_on(rt: HostRuntime) -> Result<(), Fail> {
     let alloc = rt.alloc();
-    let nets = [
+    let values = vec![in alloc;
         value(alloc, 16, 0xA5C3)?,
         value(alloc, 64, 0x0123_4567_89AB_CDEF)?,
-    ];
+    ]?;
+    let nets = Values::of(alloc, values.as_slice())?;
     let sig = [
         Piece::Part {
             net: 0,
@@ -60,11 +61,12 @@ fn pieces_are_put_together_from_the_least_on(rt: HostRuntime) -> Result<(), Fail
 #[test]
 fn a_wide_signal_is_read_from_its_least_bit_on(rt: HostRuntime) -> Result<(), Fail> {
     let alloc = rt.alloc();
-    let nets = [
+    let values = vec![in alloc;
         value(alloc, 100, 0xFFFF_0000_FFFF_0001)?,
         value(alloc, 0, 0)?,
         value(alloc, 64, 0x0123_4567_89AB_CDEF)?,
-    ];
+    ]?;
+    let nets = Values::of(alloc, values.as_slice())?;
     let sig = [
         Piece::Part {
             net: 0,
@@ -110,7 +112,8 @@ fn told(word: Option<SigWord>) -> (u32, u64) {
 #[test]
 fn one_piece_of_one_word_is_told_from_others(rt: HostRuntime) -> Result<(), Fail> {
     let alloc = rt.alloc();
-    let nets = [value(alloc, 16, 0xA5C3)?, value(alloc, 100, 1)?];
+    let values = vec![in alloc; value(alloc, 16, 0xA5C3)?, value(alloc, 100, 1)?]?;
+    let nets = Values::of(alloc, values.as_slice())?;
     let whole = [Piece::Part {
         net: 0,
         at: 0,
@@ -139,7 +142,8 @@ fn one_piece_of_one_word_is_told_from_others(rt: HostRuntime) -> Result<(), Fail
 #[test]
 fn pieces_of_one_word_are_read_together(rt: HostRuntime) -> Result<(), Fail> {
     let alloc = rt.alloc();
-    let nets = [value(alloc, 16, 0xA5C3)?];
+    let values = vec![in alloc; value(alloc, 16, 0xA5C3)?]?;
+    let nets = Values::of(alloc, values.as_slice())?;
     let sig = [
         Piece::Part {
             net: 0,
@@ -161,7 +165,8 @@ fn pieces_of_one_word_are_read_together(rt: HostRuntime) -> Result<(), Fail> {
 #[test]
 fn one_piece_is_read_from_its_least_bit_on(rt: HostRuntime) -> Result<(), Fail> {
     let alloc = rt.alloc();
-    let nets = [value(alloc, 100, 0xFFFF_0000_FFFF_0001)?];
+    let values = vec![in alloc; value(alloc, 100, 0xFFFF_0000_FFFF_0001)?]?;
+    let nets = Values::of(alloc, values.as_slice())?;
     let sig = [Piece::Part {
         net: 0,
         at: 12,
@@ -183,7 +188,7 @@ fn one_piece_is_read_from_its_least_bit_on(rt: HostRuntime) -> Result<(), Fail> 
 }
 
 /// The width and the lowest 16 bits of a whole value, and a width that no value has where there is none.
-fn told_whole(value: Option<&Bits>) -> (u32, u64) {
+fn told_whole(value: Option<BitsView>) -> (u32, u64) {
     match value {
         Some(value) => (value.width(), value.field(0, value.width().min(16))),
         None => (u32::MAX, 0),
@@ -193,7 +198,8 @@ fn told_whole(value: Option<&Bits>) -> (u32, u64) {
 #[test]
 fn whole_values_are_told_from_parts(rt: HostRuntime) -> Result<(), Fail> {
     let alloc = rt.alloc();
-    let nets = [value(alloc, 100, 0xA5C3)?];
+    let values = vec![in alloc; value(alloc, 100, 0xA5C3)?]?;
+    let nets = Values::of(alloc, values.as_slice())?;
     let whole = [Piece::Part {
         net: 0,
         at: 0,

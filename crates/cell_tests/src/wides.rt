@@ -121,10 +121,12 @@ fn writes<L: Ledger>(
     let Some((store, changed)) = evaluated(alloc, form, op, signed, ports, old_value, steps)? else {
         return Ok(false);
     };
-    let Some(output) = store.cells.as_slice().first() else {
+    if store.cells.len() == 0 {
         return Ok(false);
-    };
-    Ok(output.same(&wanted) && changed == change)
+    }
+    let output = store.cells.view(0);
+    let same = output.width() == width && output.words() == wanted.words();
+    Ok(same && changed == change)
 }
 
 /// Whether it does so however its ports are written, over 0 and over an output that is right already.

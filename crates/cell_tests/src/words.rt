@@ -4,8 +4,8 @@ ghost use Rattle.cell_words.specs.Kinds.{is_arithmetic_or_shift};
 
 use crate::forms::{FORMS, Form, cell_and_store, part};
 use cell_words::{Store, eval};
-use circuit::{Cell, Op, Values};
-use sim_base::{Bits, NoMemory, Steps};
+use circuit::{Cell, Listing, Op};
+use sim_base::{Bits, BitsView, NoMemory, Steps, Values};
 use sqlite_items::Items;
 use std::alloc::Global;
 use std::marker::Brand;
@@ -27,7 +27,7 @@ fn value(alloc: Global, width: u32, number: u128) -> Result<Bits, NoMemory>
 }
 
 /// The lowest 128 digits.
-fn number_of(bits: &Bits) -> u128 {
+fn number_of(bits: &BitsView) -> u128 {
     let width = bits.width();
     let low = width.min(64);
     u128::from(bits.field(0, low)) + (u128::from(bits.field(low, (width - low).min(64))) << 64)
@@ -90,10 +90,10 @@ fn writes<L: Ledger>(
     let Some((store, changed)) = evaluated(alloc, form, op, signed, a, b, old_value, steps)? else {
         return Ok(false);
     };
-    let Some(output) = store.cells.as_slice().first() else {
+    if store.cells.len() == 0 {
         return Ok(false);
-    };
-    Ok(number_of(output) == y && changed == (old != y))
+    }
+    Ok(number_of(&store.cells.view(0)) == y && changed == (old != y))
 }
 
 /// Whether it does so however its ports are written, over 0 and over an output that is right already.
@@ -591,9 +591,10 @@ fn writes_wide<L: Ledger>(
     let Some((store, changed)) = evaluated(alloc, form, op, (true, false), a, b, old, steps)? else {
         return Ok(false);
     };
-    let Some(output) = store.cells.as_slice().first() else {
+    if store.cells.len() == 0 {
         return Ok(false);
-    };
+    }
+    let output = store.cells.view(0);
     if output.width() < 64 || at > output.width() - 64 {
         return Ok(false);
     }
@@ -652,21 +653,20 @@ fn outputs_over_nets<L: Ledger>(alloc: Global, blank: Blank) -> Result<(u128, u1
         width: 12,
         offset: 0,
     };
+    let nets = vec![in alloc; value(alloc, 16, 0xA5C3)?, value(alloc, 8, 7)?]?;
+    let outputs = vec![in alloc; value(alloc, 3, 5)?, value(alloc, 12, 0x35C)?]?;
     let mut store = Store {
-        nets: Values::new(alloc),
-        cells: Values::new(alloc),
-        regs: Values::new(alloc),
-        reads: Values::new(alloc),
+        nets: Values::of(alloc, nets.as_slice())?,
+        cells: Values::of(alloc, outputs.as_slice())?,
+        regs: Values::new(alloc, [].as_slice())?,
+        reads: Listing::new(alloc),
     };
-    store.nets.push(value(alloc, 16, 0xA5C3)?)?;
-    store.nets.push(value(alloc, 8, 7)?)?;
-    store.cells.push(value(alloc, 3, 5)?)?;
-    store.cells.push(value(alloc, 12, 0x35C)?)?;
     let changed = eval(&cell, &mut store, 1, &mut steps);
-    match store.cells.as_slice() {
-        [first, second] => Ok((number_of(first), number_of(second), changed)),
-        _ => Ok((0, 0, false)),
+    if store.cells.len() != 2 {
+        return Ok((0, 0, false));
     }
+    let (first, second) = (store.cells.view(0), store.cells.view(1));
+    Ok((number_of(&first), number_of(&second), changed))
 }
 
 #[test]

@@ -7,7 +7,7 @@ use Rattle.circuit.specs.Output.{modulo, ones, operand}
 use Rattle.circuit.specs.Signal.{Digits, sig_number, sig_value, sig_width}
 use Rattle.circuit.specs.declared.netlist.Piece.{Piece}
 use Rattle.signal_words.specs.Values.{digits_in, IsWordOf}
-use Rattle.signal_words.specs.Written.{IsWritten}
+use Rattle.sim_base.specs.Values.{IsPut}
 use Rattle.cell_wide.proofs.Narrow.{cut_operand}
 use Rattle.cell_wide.proofs.Truths.{ones_count}
 
@@ -16,8 +16,8 @@ module _ (values : List BitValue) (sig : List Piece) (width number : ℕ) (i : I
   pub all_digits : sig_number (digits_in values) sig % 2 ^ sig_width sig ≡ number
   all_digits = ap (λ n. n % 2 ^ sig_width sig) (sym i.number_is) ∙ ap (λ w. number % 2 ^ w) (sym i.width_is) ∙ mod-eq_of_lt i.below
 
-  pub word_copied : (old new : BitValue) (changed : Bool) → sig_width sig ≡ old.width → IsWritten number old new changed → IsWritten (sig_number (digits_in values) sig % 2 ^ old.width) old new changed
-  word_copied old new changed e h = subst (λ n. IsWritten n old new changed) (sym all_digits ∙ ap (λ w. sig_number (digits_in values) sig % 2 ^ w) e) h
+  pub word_copied : (at w : ℕ) (old new : List BitValue) (changed : Bool) → sig_width sig ≡ w → IsPut at number old new changed → IsPut at (sig_number (digits_in values) sig % 2 ^ w) old new changed
+  word_copied at w old new changed e h = subst (λ n. IsPut at n old new changed) (sym all_digits ∙ ap (λ w. sig_number (digits_in values) sig % 2 ^ w) e) h
 
   pub word_ones : (count_ones number % 2 == 1) ≡ (ones (sig_width sig) (sig_number (digits_in values) sig) % 2 == 1)
   word_ones = ap (λ n. (count_ones n % 2 == 1)) (sym all_digits) ∙ ap (λ n. (n % 2 == 1)) (sym (ones_count (sig_width sig) (sig_number (digits_in values) sig)))

@@ -18,7 +18,6 @@ use Rattle.circuit.specs.declared.cell.Op.{Op}
 use Rattle.circuit.specs.declared.cell.Op.TheVariants as op
 use Rattle.cell_wide.specs.Words.{digitwise}
 use Rattle.cell_wide.proofs.Digits.{complement}
-use Rattle.cell_wide.proofs.Written.{field_put}
 
 -- ---- words
 
@@ -82,44 +81,6 @@ all_compared number old w place changed i below fits le =
       | inl e ↦ e.0 ∙ sym (eq-eqb a b (f e.1))
       | inr e ↦ e.0 ∙ sym (ne_eqb a b (λ is. e.1 (g is)))
     ]
-
--- ---- writing
-
--- the words below this place are those of the number, and the others are as they were
-pub record IsReplacing (number : ℕ) (old new : BitValue) (place : ℕ) : Type 0 where
-  pub same_width : new.width ≡ old.width
-  pub below : new.number ≡ old.number / 2 ^ (64 * place) * 2 ^ (64 * place) + number % 2 ^ (64 * place)
-
-pub one_replaced : (number : ℕ) (old new put : BitValue) (place word : ℕ) → IsReplacing number old new place → word ≡ number / 2 ^ (64 * place) % 2 ^ 64 → put.width ≡ new.width
-    → ((j : ℕ) → bit_at put.number j ≡ digit_after_copy (64 * place) word 0 64 new.number j) → IsReplacing number old put (place + 1)
-one_replaced number old new put place word i is w bits =
-    let next : 64 * (place + 1) ≡ 64 * place + 64 = omega arith in
-    let fits : word < 2 ^ 64 = subst (λ n. n < 2 ^ 64) (sym is) (mod_below (number / 2 ^ (64 * place)) (2 ^ 64) (pow_pos 64)) in
-    let high : new.number / 2 ^ (64 * place + 64) ≡ old.number / 2 ^ (64 * place + 64) =
-    sym (shr-shr new.number (64 * place) 64) ∙ ap (λ x. x / 2 ^ (64 * place) / 2 ^ 64) i.below ∙ ap (λ x. x / 2 ^ 64) (shr_high (old.number / 2 ^ (64 * place)) (64 * place) (number % 2 ^ (64 * place)) (low_lt number place)) ∙ shr-shr old.number (64 * place) 64 in
-    let under : new.number % 2 ^ (64 * place) ≡ number % 2 ^ (64 * place) = ap (λ x. x % 2 ^ (64 * place)) i.below ∙ mod_low (old.number / 2 ^ (64 * place)) (64 * place) (number % 2 ^ (64 * place)) (low_lt number place) in
-    record {
-      same_width = w ∙ i.same_width;
-      below =
-          field_put new.number (64 * place) 64 word put.number fits bits ∙ ap (λ x. x * 2 ^ (64 * place + 64) + (word * 2 ^ (64 * place) + new.number % 2 ^ (64 * place))) high
-          ∙ ap (λ x. old.number / 2 ^ (64 * place + 64) * 2 ^ (64 * place + 64) + (word * 2 ^ (64 * place) + x)) under
-          ∙ ap (λ x. old.number / 2 ^ (64 * place + 64) * 2 ^ (64 * place + 64) + (x * 2 ^ (64 * place) + number % 2 ^ (64 * place))) is
-          ∙ ap (λ x. old.number / 2 ^ (64 * place + 64) * 2 ^ (64 * place + 64) + x) (sym (split number place))
-          ∙ ap (λ k. old.number / 2 ^ k * 2 ^ k + number % 2 ^ (64 * (place + 1))) (sym next);
-    }
-
-pub all_replaced : (number : ℕ) (old new : BitValue) (place : ℕ) → IsReplacing number old new place → old.number < 2 ^ old.width → number < 2 ^ old.width → old.width ≤ 64 * place → new ≡ bit_value old.width number
-all_replaced number old new place i below fits le =
-    let p : 2 ^ old.width ≤ 2 ^ (64 * place) = pow-le-pow_right {n = 2} (lit< tt) {i = old.width} {j = 64 * place} le in
-    let none : old.number / 2 ^ (64 * place) ≡ 0 = div-eq_of_lt (omega (arith, below, p)) in
-    let all : number % 2 ^ (64 * place) ≡ number = mod-eq_of_lt (omega (arith, fits, p)) in
-    value_is new old.width number i.same_width (i.below ∙ ap (λ x. x * 2 ^ (64 * place) + number % 2 ^ (64 * place)) none ∙ ap (λ x. 0 * 2 ^ (64 * place) + x) all ∙ plain (2 ^ (64 * place)))
-  where
-    plain : (m : ℕ) → 0 * m + number ≡ number
-    plain m = omega arith
-
-    value_is : (v : BitValue) (w n : ℕ) → v.width ≡ w → v.number ≡ n → v ≡ bit_value w n
-    value_is v w n a b = ap (λ x. bit_value x v.number) a ∙ ap (bit_value w) b
 
 -- ---- digit by digit
 

@@ -1,10 +1,11 @@
 -- The types of cells that work on any width.
-use Rattle.std.specs.Prelude.{◌≡◌, ◌≤◌, List, Bool, true, false, ◌||◌}
+use Rattle.std.specs.Prelude.{◌≡◌, ℕ, ◌<◌, ◌≤◌, List, length, Bool, true, false, ◌||◌}
 use Rattle.sim_base.specs.BitValue.{BitValue}
 use Rattle.circuit.specs.Valid.{widest, widths_fit, widths_of}
 use Rattle.circuit.specs.declared.cell.Cell.{Cell}
 use Rattle.circuit.specs.declared.cell.Op.{Op}
 use Rattle.circuit.specs.declared.cell.Op.TheVariants as op
+use Rattle.sim_base.specs.Values.{width_at}
 use Rattle.signal_words.specs.Values.{IsSignalOf}
 
 -- all digits of one operand, one by one
@@ -71,11 +72,12 @@ is_computed o = is_unary o || (is_bitwise o || is_truth o)
 abbrev pub is_wide : Op → Bool
 is_wide o = is_unary o || (is_bitwise o || (is_truth o || is_selection o))
 
--- a cell over these values of the nets, and a value that takes its output
-pub record IsReady (values : List BitValue) (c : Cell) (into : BitValue) : Type 0 where
+-- a cell over these values of the nets, and the place of its output
+pub record IsWideReady (values : List BitValue) (c : Cell) (into : List BitValue) (out : ℕ) : Type 0 where
   pub a : IsSignalOf values c.a
   pub b : IsSignalOf values c.b
   pub s : IsSignalOf values c.s
   pub width : c.width ≤ widest
   pub fits : widths_fit c.op (widths_of c) ≡ true
-  pub into_width : into.width ≡ c.width
+  pub there : out < length into
+  pub into_width : width_at into out ≡ c.width

@@ -4,31 +4,31 @@ ghost use Rattle.sim_base.specs.BitValue.{bit_value, zeros};
 ghost use Rattle.circuit.specs.Output.{output};
 ghost use Rattle.signal_words.specs.Values.{digits_in};
 ghost use Rattle.signal_words.specs.Stores.{IsCellOf};
-ghost use Rattle.cell_wide.specs.Kinds.{IsReady, is_wide};
-ghost use Rattle.signal_words.specs.Written.{IsWritten};
+ghost use Rattle.cell_wide.specs.Kinds.{IsWideReady, is_wide};
+ghost use Rattle.sim_base.specs.Values.{IsPut, width_at};
 
 use crate::computed::computed_of_ports;
 use crate::select::{mux, selection};
 use crate::whole::{bitwise_values, equality_of_values, unary_values};
 use circuit::{Cell, Op, Store};
-use sim_base::{Bits, Steps};
+use sim_base::{Steps, Values};
 use std::sync::ledger::Ledger;
 
 /// Writes the output of a cell, and tells whether that changed it.
 #[inline(always)]
-fn written(cell: &Cell, nets: &[Bits], into: &mut Bits) -> bool
+fn written(cell: &Cell, nets: &Values, into: &mut Values, out: u32) -> bool
     requires kind { is_wide cell.now.op ≡ true }
-    requires ready { IsReady nets.now cell.now into.old }
-    ensures { IsWritten (output (digits_in nets.now) cell.now) into.old into.new result }
+    requires ready { IsWideReady nets.now cell.now into.old out }
+    ensures { IsPut out (output (digits_in nets.now) cell.now) into.old into.new result }
 {
     match cell.op {
-        Op::Mux => mux(cell, nets, into),
-        Op::Pmux | Op::Bmux | Op::Demux => selection(cell, nets, into),
-        Op::Bwmux | Op::Bweqx | Op::Slice | Op::Concat => selection(cell, nets, into),
-        Op::Not | Op::Pos => unary_values(cell, nets, into),
-        Op::And | Op::Or | Op::Xor | Op::Xnor => bitwise_values(cell, nets, into),
-        Op::Eq | Op::Ne | Op::Eqx | Op::Nex => equality_of_values(cell, nets, into),
-        _ => computed_of_ports(cell, nets, into),
+        Op::Mux => mux(cell, nets, into, out),
+        Op::Pmux | Op::Bmux | Op::Demux => selection(cell, nets, into, out),
+        Op::Bwmux | Op::Bweqx | Op::Slice | Op::Concat => selection(cell, nets, into, out),
+        Op::Not | Op::Pos => unary_values(cell, nets, into, out),
+        Op::And | Op::Or | Op::Xor | Op::Xnor => bitwise_values(cell, nets, into, out),
+        Op::Eq | Op::Ne | Op::Eqx | Op::Nex => equality_of_values(cell, nets, into, out),
+        _ => computed_of_ports(cell, nets, into, out),
     }
 }
 
@@ -43,6 +43,5 @@ pub fn eval_wide<L: Ledger>(cell: &Cell, store: &mut Store, out: u32, steps: &mu
     ensures step { steps.new ≡ steps.old + 1 }
 {
     steps.tick();
-    let into = store.cells.at(out as usize);
-    written(cell, store.nets.as_slice(), into)
+    written(cell, &store.nets, &mut store.cells, out)
 }

@@ -9,13 +9,13 @@ use crate::words::{Chain, Fill, Words};
 use crate::write::same;
 use circuit::Piece;
 use signal_words::{SigReader, sig_bit, sig_width, sig_word};
-use sim_base::Bits;
+use sim_base::Values;
 
 /// A signal, and behind its last bit that bit again where it is signed, or zeros.
 pub type Operand<'a> = Chain<SigReader<'a>, Fill>;
 
 /// The operand that a signal stands for, in two's complement where it is signed.
-pub fn operand<'a>(sig: &'a [Piece], nets: &'a [Bits], signed: bool) -> Operand<'a>
+pub fn operand<'a>(sig: &'a [Piece], nets: &'a Values, signed: bool) -> Operand<'a>
     requires { IsSignalOf nets.now sig.now }
     ensures { (w : ℕ) → low_of_operand result.low result.left result.high.ones w
         ≡ modulo w (operand signed (sig_width sig.now) (sig_number (digits_in nets.now) sig.now)) }
@@ -30,7 +30,7 @@ pub fn operand<'a>(sig: &'a [Piece], nets: &'a [Bits], signed: bool) -> Operand<
 }
 
 /// Whether the number of a signal is 0.
-pub fn is_zero(sig: &[Piece], nets: &[Bits]) -> bool
+pub fn is_zero(sig: &[Piece], nets: &Values) -> bool
     requires { IsSignalOf nets.now sig.now }
     ensures { result ≡ (sig_number (digits_in nets.now) sig.now == 0) }
 {

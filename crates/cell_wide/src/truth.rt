@@ -1,10 +1,10 @@
 //! Cells that give a truth value.
-ghost use Rattle.std.specs.Prelude.{◌≡◌, ◌==◌, ◌&&◌, ◌%◌, ◌^◌, ◌-◌, ◌<◌, ◌≤◌, int_le, true, IfSome};
+ghost use Rattle.std.specs.Prelude.{◌≡◌, ◌==◌, ◌&&◌, ◌%◌, ◌^◌, ◌-◌, ◌<◌, ◌≤◌, int_le, true, IfSome, length};
 ghost use Rattle.circuit.specs.Output.{CellInputs, formula, cell_inputs, is_equal, modulo, ones, operand, output, truth};
 ghost use Rattle.circuit.specs.Signal.{sig_number, sig_value, sig_width};
 ghost use Rattle.signal_words.specs.Values.{digits_in, IsSignalOf, IsWordOf};
-ghost use Rattle.cell_wide.specs.Kinds.{IsReady, is_equality, is_logic, is_reduction, is_truth};
-ghost use Rattle.signal_words.specs.Written.{IsWritten};
+ghost use Rattle.cell_wide.specs.Kinds.{IsWideReady, is_equality, is_logic, is_reduction, is_truth};
+ghost use Rattle.sim_base.specs.Values.{IsPut, width_at};
 
 use crate::bitwise::operands;
 use crate::count::is_odd;
@@ -13,12 +13,12 @@ use crate::word::operand_word;
 use crate::words::{Chain, Fill};
 use crate::write::{same, write};
 use circuit::{Cell, Op, Piece};
-use signal_words::{SigReader, SigWord, are_signed, ones_word, put_only_word, sig_width};
-use sim_base::Bits;
+use signal_words::{SigReader, SigWord, are_signed, ones_word, sig_width};
+use sim_base::Values;
 
 /// Whether all bits of a signal are 1.
 #[inline(always)]
-fn are_ones(sig: &[Piece], nets: &[Bits], word: Option<SigWord>) -> bool
+fn are_ones(sig: &[Piece], nets: &Values, word: Option<SigWord>) -> bool
     requires signal { IsSignalOf nets.now sig.now }
     requires word { IfSome word (λ word. IsWordOf nets.now sig.now word.width word.number) }
     ensures { result ≡ (sig_number (digits_in nets.now) sig.now == 2 ^ sig_width sig.now - 1) }
@@ -31,7 +31,7 @@ fn are_ones(sig: &[Piece], nets: &[Bits], word: Option<SigWord>) -> bool
 
 /// Whether all bits of a signal of any width are 1.
 #[inline(never)]
-fn are_ones_wide(sig: &[Piece], nets: &[Bits]) -> bool
+fn are_ones_wide(sig: &[Piece], nets: &Values) -> bool
     requires { IsSignalOf nets.now sig.now }
     ensures { result ≡ (sig_number (digits_in nets.now) sig.now == 2 ^ sig_width sig.now - 1) }
 {
@@ -42,7 +42,7 @@ fn are_ones_wide(sig: &[Piece], nets: &[Bits]) -> bool
 
 /// Whether the number of a signal is 0.
 #[inline(always)]
-fn is_none(sig: &[Piece], nets: &[Bits], word: Option<SigWord>) -> bool
+fn is_none(sig: &[Piece], nets: &Values, word: Option<SigWord>) -> bool
     requires signal { IsSignalOf nets.now sig.now }
     requires word { IfSome word (λ word. IsWordOf nets.now sig.now word.width word.number) }
     ensures { result ≡ (sig_number (digits_in nets.now) sig.now == 0) }
@@ -55,7 +55,7 @@ fn is_none(sig: &[Piece], nets: &[Bits], word: Option<SigWord>) -> bool
 
 /// Whether the number of bits of a signal that are 1 is odd.
 #[inline(always)]
-fn has_odd_ones(sig: &[Piece], nets: &[Bits], word: Option<SigWord>) -> bool
+fn has_odd_ones(sig: &[Piece], nets: &Values, word: Option<SigWord>) -> bool
     requires signal { IsSignalOf nets.now sig.now }
     requires word { IfSome word (λ word. IsWordOf nets.now sig.now word.width word.number) }
     ensures { result ≡ (ones (sig_width sig.now) (sig_number (digits_in nets.now) sig.now) % 2 == 1) }
@@ -68,7 +68,7 @@ fn has_odd_ones(sig: &[Piece], nets: &[Bits], word: Option<SigWord>) -> bool
 
 /// Whether the number of bits of a signal of any width that are 1 is odd.
 #[inline(never)]
-fn has_odd_ones_wide(sig: &[Piece], nets: &[Bits]) -> bool
+fn has_odd_ones_wide(sig: &[Piece], nets: &Values) -> bool
     requires { IsSignalOf nets.now sig.now }
     ensures { result ≡ (ones (sig_width sig.now) (sig_number (digits_in nets.now) sig.now) % 2 == 1) }
 {
@@ -78,7 +78,7 @@ fn has_odd_ones_wide(sig: &[Piece], nets: &[Bits]) -> bool
 }
 
 #[inline(always)]
-fn reduced(op: Op, sig: &[Piece], nets: &[Bits], a: Option<SigWord>) -> bool
+fn reduced(op: Op, sig: &[Piece], nets: &Values, a: Option<SigWord>) -> bool
     requires kind { is_reduction op ≡ true }
     requires signal { IsSignalOf nets.now sig.now }
     requires a { IfSome a (λ word. IsWordOf nets.now sig.now word.width word.number) }
@@ -93,7 +93,7 @@ fn reduced(op: Op, sig: &[Piece], nets: &[Bits], a: Option<SigWord>) -> bool
 }
 
 #[inline(always)]
-fn logic(cell: &Cell, nets: &[Bits], a: Option<SigWord>, b: Option<SigWord>) -> bool
+fn logic(cell: &Cell, nets: &Values, a: Option<SigWord>, b: Option<SigWord>) -> bool
     requires kind { is_logic cell.now.op ≡ true }
     requires a_signal { IsSignalOf nets.now cell.now.a }
     requires b_signal { IsSignalOf nets.now cell.now.b }
@@ -124,7 +124,7 @@ fn are_equal_words(a: SigWord, b: SigWord, signed: bool) -> bool
 
 /// Whether the two operands of a cell are the same whole number.
 #[inline(always)]
-fn are_equal(cell: &Cell, nets: &[Bits], a: Option<SigWord>, b: Option<SigWord>) -> bool
+fn are_equal(cell: &Cell, nets: &Values, a: Option<SigWord>, b: Option<SigWord>) -> bool
     requires a_signal { IsSignalOf nets.now cell.now.a }
     requires b_signal { IsSignalOf nets.now cell.now.b }
     requires a { IfSome a (λ word. IsWordOf nets.now cell.now.a word.width word.number) }
@@ -139,7 +139,7 @@ fn are_equal(cell: &Cell, nets: &[Bits], a: Option<SigWord>, b: Option<SigWord>)
 
 /// Whether the two operands of a cell, of any width, are the same whole number.
 #[inline(never)]
-fn are_equal_wide(cell: &Cell, nets: &[Bits]) -> bool
+fn are_equal_wide(cell: &Cell, nets: &Values) -> bool
     requires a { IsSignalOf nets.now cell.now.a }
     requires b { IsSignalOf nets.now cell.now.b }
     ensures { result ≡ is_equal (cell_inputs (digits_in nets.now) cell.now) }
@@ -152,7 +152,7 @@ fn are_equal_wide(cell: &Cell, nets: &[Bits]) -> bool
 }
 
 #[inline(always)]
-fn equality(cell: &Cell, nets: &[Bits], a: Option<SigWord>, b: Option<SigWord>) -> bool
+fn equality(cell: &Cell, nets: &Values, a: Option<SigWord>, b: Option<SigWord>) -> bool
     requires kind { is_equality cell.now.op ≡ true }
     requires a_signal { IsSignalOf nets.now cell.now.a }
     requires b_signal { IsSignalOf nets.now cell.now.b }
@@ -168,7 +168,7 @@ fn equality(cell: &Cell, nets: &[Bits], a: Option<SigWord>, b: Option<SigWord>) 
 }
 
 #[inline(always)]
-fn truth_of(cell: &Cell, nets: &[Bits], a: Option<SigWord>, b: Option<SigWord>) -> bool
+fn truth_of(cell: &Cell, nets: &Values, a: Option<SigWord>, b: Option<SigWord>) -> bool
     requires kind { is_truth cell.now.op ≡ true }
     requires a_signal { IsSignalOf nets.now cell.now.a }
     requires b_signal { IsSignalOf nets.now cell.now.b }
@@ -187,41 +187,44 @@ fn truth_of(cell: &Cell, nets: &[Bits], a: Option<SigWord>, b: Option<SigWord>) 
 #[inline(always)]
 pub fn truth(
     cell: &Cell,
-    nets: &[Bits],
+    nets: &Values,
     a: Option<SigWord>,
     b: Option<SigWord>,
-    into: &mut Bits,
+    into: &mut Values,
+    out: u32,
 ) -> bool
     requires kind { is_truth cell.now.op ≡ true }
-    requires ready { IsReady nets.now cell.now into.old }
+    requires ready { IsWideReady nets.now cell.now into.old out }
     requires a { IfSome a (λ word. IsWordOf nets.now cell.now.a word.width word.number) }
     requires b { IfSome b (λ word. IsWordOf nets.now cell.now.b word.width word.number) }
-    ensures { IsWritten (output (digits_in nets.now) cell.now) into.old into.new result }
+    ensures { IsPut out (output (digits_in nets.now) cell.now) into.old into.new result }
 {
     let ones = truth_of(cell, nets, a, b);
-    put_truth(into, ones)
+    put_truth(into, out, ones)
 }
 
 /// Makes the number of a value 1 or 0, as far as it has bits, and tells whether that changed it.
 #[inline(always)]
-pub fn put_truth(into: &mut Bits, ones: bool) -> bool
-    ensures { IsWritten (modulo into.old.width (truth ones)) into.old into.new result }
+pub fn put_truth(into: &mut Values, out: u32, ones: bool) -> bool
+    requires { out < length into.old }
+    ensures { IsPut out (modulo (width_at into.old out) (truth ones)) into.old into.new result }
 {
-    if into.width() == 1 {
-        return put_only_word(into, u64::from(ones));
+    if into.width(out) == 1 {
+        return into.put_word(out, u64::from(ones));
     }
-    put_truth_wide(into, ones)
+    put_truth_wide(into, out, ones)
 }
 
 /// Makes the number of a value of any width 1 or 0, and tells whether that changed it.
 #[inline(never)]
-fn put_truth_wide(into: &mut Bits, ones: bool) -> bool
-    ensures { IsWritten (modulo into.old.width (truth ones)) into.old into.new result }
+fn put_truth_wide(into: &mut Values, out: u32, ones: bool) -> bool
+    requires { out < length into.old }
+    ensures { IsPut out (modulo (width_at into.old out) (truth ones)) into.old into.new result }
 {
     let mut digits = Chain {
         low: Fill { ones },
         left: 1,
         high: Fill { ones: false },
     };
-    write(&mut digits, into)
+    write(&mut digits, into, out)
 }

@@ -1,12 +1,12 @@
 //! Values of one width, digit by digit.
-ghost use Rattle.std.specs.Prelude.{◌≡◌, ◌==◌, ◌<◌, ◌≤◌, ◌^◌};
-ghost use Rattle.sim_base.specs.BitValue.{bit_value};
-ghost use Rattle.signal_words.specs.Written.{IsWritten};
+ghost use Rattle.std.specs.Prelude.{◌≡◌, ◌==◌, ◌<◌, ◌≤◌, ◌^◌, length, ◌+◌, ◌/◌};
+ghost use Rattle.sim_base.specs.BitValue.{AreWords, bit_value, number_of_words};
+ghost use Rattle.sim_base.specs.Values.{IsPut, width_at, with_number};
 ghost use Rattle.cell_wide.specs.Words.{digitwise};
 
 use circuit::Op;
-use signal_words::{ones_word, only_word, put_only_word};
-use sim_base::Bits;
+use signal_words::ones_word;
+use sim_base::{BitsView, Values};
 
 /// What a type of cell makes of `n` digits of its two operands. A type that is none of these keeps the first.
 #[inline(always)]
@@ -29,7 +29,7 @@ fn digitwise(op: Op, n: u32, one: u64, other: u64) -> u64
 
 /// Whether a value is what a type of cell makes of two others, word by word. The last word may have fewer digits.
 #[inline(always)]
-fn is_written(op: Op, one: &Bits, other: &Bits, value: &Bits) -> bool
+fn is_written<'a>(op: Op, one: &BitsView<'a>, other: &BitsView<'a>, value: &BitsView) -> bool
     requires one { one.now.width ≡ value.now.width }
     requires other { other.now.width ≡ value.now.width }
     ensures { result ≡ (value.now.number == digitwise op value.now.width one.now.number other.now.number) }
@@ -53,93 +53,123 @@ fn is_written(op: Op, one: &Bits, other: &Bits, value: &Bits) -> bool
 
 /// Makes a value what a type of cell makes of two others, word by word.
 #[inline(always)]
-fn put_words(op: Op, one: &Bits, other: &Bits, into: &mut Bits)
-    requires one { one.now.width ≡ into.old.width }
-    requires other { other.now.width ≡ into.old.width }
-    ensures { into.new ≡ bit_value into.old.width (digitwise op into.old.width one.now.number other.now.number) }
+fn put_words<'a>(op: Op, one: &BitsView<'a>, other: &BitsView<'a>, into: &mut Values, out: u32)
+    requires there { out < length into.old }
+    requires one { one.now.width ≡ width_at into.old out }
+    requires other { other.now.width ≡ width_at into.old out }
+    ensures { into.new ≡ with_number into.old out (digitwise op (width_at into.old out) one.now.number other.now.number) }
 {
     let _ = (one.width(), other.width());
-    let width = into.width();
+    let width = into.width(out);
     let whole = (width / 64) as usize;
     let (left, right) = (one.words(), other.words());
     let mut place = 0usize;
     while place < whole {
         let word = digitwise(op, 64, left[place], right[place]);
-        into.put_word(place, word);
+        into.put_word_at(out, place as u32, word);
         place += 1;
     }
     let rest = width % 64;
     if rest > 0 {
         let word = digitwise(op, rest, left[whole], right[whole]);
-        into.put_word(whole, word);
+        into.put_word_at(out, whole as u32, word);
     }
 }
 
 /// Writes what a type of cell makes of two values, where that is something else than what is there, and tells
 /// whether it is.
 #[inline(always)]
-fn write_words(op: Op, one: &Bits, other: &Bits, into: &mut Bits) -> bool
-    requires one { one.now.width ≡ into.old.width }
-    requires other { other.now.width ≡ into.old.width }
-    ensures { IsWritten (digitwise op into.old.width one.now.number other.now.number) into.old into.new result }
+fn write_words<'a>(
+    op: Op,
+    one: &BitsView<'a>,
+    other: &BitsView<'a>,
+    into: &mut Values,
+    out: u32,
+) -> bool
+    requires there { out < length into.old }
+    requires one { one.now.width ≡ width_at into.old out }
+    requires other { other.now.width ≡ width_at into.old out }
+    ensures { IsPut out (digitwise op (width_at into.old out) one.now.number other.now.number) into.old into.new result }
 {
-    if is_written(op, one, other, into) {
+    if is_written(op, one, other, &into.view(out)) {
         return false;
     }
-    put_words(op, one, other, into);
+    put_words(op, one, other, into, out);
     true
 }
 
-/// Writes what a type of cell makes of two values of many words, with a loop of its own for each type.
+/// Writes what a type of cell makes of the words of two values, with a loop of its own for each type.
 #[inline(never)]
-fn write_many(op: Op, one: &Bits, other: &Bits, into: &mut Bits) -> bool
-    requires one { one.now.width ≡ into.old.width }
-    requires other { other.now.width ≡ into.old.width }
-    ensures { IsWritten (digitwise op into.old.width one.now.number other.now.number) into.old into.new result }
+fn write_many<'a>(op: Op, left: &'a [u64], right: &'a [u64], into: &mut Values, out: u32) -> bool
+    requires there { out < length into.old }
+    requires left { length left.now ≡ (width_at into.old out + 63) / 64 }
+    requires left_below { number_of_words left.now < 2 ^ width_at into.old out }
+    requires left_fit { AreWords left.now }
+    requires right { length right.now ≡ (width_at into.old out + 63) / 64 }
+    requires right_below { number_of_words right.now < 2 ^ width_at into.old out }
+    requires right_fit { AreWords right.now }
+    ensures { IsPut out (digitwise op (width_at into.old out) (number_of_words left.now) (number_of_words right.now)) into.old into.new result }
 {
+    let width = into.width(out);
+    let (one, other) = (BitsView::of(left, width), BitsView::of(right, width));
     match op {
-        Op::And => write_words(Op::And, one, other, into),
-        Op::Or => write_words(Op::Or, one, other, into),
-        Op::Xor => write_words(Op::Xor, one, other, into),
-        Op::Xnor => write_words(Op::Xnor, one, other, into),
-        Op::Not => write_words(Op::Not, one, other, into),
-        _ => write_words(Op::Pos, one, other, into),
+        Op::And => write_words(Op::And, &one, &other, into, out),
+        Op::Or => write_words(Op::Or, &one, &other, into, out),
+        Op::Xor => write_words(Op::Xor, &one, &other, into, out),
+        Op::Xnor => write_words(Op::Xnor, &one, &other, into, out),
+        Op::Not => write_words(Op::Not, &one, &other, into, out),
+        _ => write_words(Op::Pos, &one, &other, into, out),
     }
 }
 
 /// Writes what a type of cell makes of two values of the output's width, and tells whether that changed it.
 #[inline(always)]
-pub fn write_digitwise(op: Op, one: &Bits, other: &Bits, into: &mut Bits) -> bool
-    requires one { one.now.width ≡ into.old.width }
-    requires other { other.now.width ≡ into.old.width }
-    ensures { IsWritten (digitwise op into.old.width one.now.number other.now.number) into.old into.new result }
+pub fn write_digitwise<'a>(
+    op: Op,
+    one: BitsView<'a>,
+    other: BitsView<'a>,
+    into: &mut Values,
+    out: u32,
+) -> bool
+    requires there { out < length into.old }
+    requires one { one.width ≡ width_at into.old out }
+    requires other { other.width ≡ width_at into.old out }
+    ensures { IsPut out (digitwise op (width_at into.old out) one.entry.number other.entry.number) into.old into.new result }
 {
-    let width = into.width();
+    let width = one.width();
     if width == 0 || width > 64 {
-        return write_many(op, one, other, into);
+        let _ = other.width();
+        return write_many(op, one.words(), other.words(), into, out);
     }
-    let word = digitwise(op, width, only_word(one), only_word(other));
-    put_only_word(into, word)
+    let word = digitwise(op, width, one.only_word(), other.only_word());
+    into.put_word(out, word)
 }
 
-/// Whether two values of many words and one width are the same.
+/// Whether the words of two values of one width are the same.
 #[inline(never)]
-fn are_same_words(one: &Bits, other: &Bits) -> bool
-    requires { one.now.width ≡ other.now.width }
-    ensures { result ≡ (one.now.number == other.now.number) }
+fn are_same_words<'a>(left: &'a [u64], right: &'a [u64], width: u32) -> bool
+    requires left { length left.now ≡ (width + 63) / 64 }
+    requires left_below { number_of_words left.now < 2 ^ width }
+    requires left_fit { AreWords left.now }
+    requires right { length right.now ≡ (width + 63) / 64 }
+    requires right_below { number_of_words right.now < 2 ^ width }
+    requires right_fit { AreWords right.now }
+    ensures { result ≡ (number_of_words left.now == number_of_words right.now) }
 {
-    is_written(Op::Pos, other, other, one)
+    let (one, other) = (BitsView::of(left, width), BitsView::of(right, width));
+    is_written(Op::Pos, &other, &other, &one)
 }
 
 /// Whether two values of one width are the same.
 #[inline(always)]
-pub fn are_same(one: &Bits, other: &Bits) -> bool
-    requires { one.now.width ≡ other.now.width }
-    ensures { result ≡ (one.now.number == other.now.number) }
+pub fn are_same(one: BitsView, other: BitsView) -> bool
+    requires { one.width ≡ other.width }
+    ensures { result ≡ (one.entry.number == other.entry.number) }
 {
     let width = one.width();
     if width == 0 || width > 64 {
-        return are_same_words(one, other);
+        let _ = other.width();
+        return are_same_words(one.words(), other.words(), width);
     }
-    only_word(one) == only_word(other)
+    one.only_word() == other.only_word()
 }

@@ -1,11 +1,10 @@
 //! What is done with the digits of a number.
-ghost use Rattle.std.specs.Prelude.{◌≡◌, ◌==◌, ◌+◌, ◌/◌, ◌%◌, ◌<◌, ◌≤◌, ◌^◌};
-ghost use Rattle.signal_words.specs.Written.{IsWritten};
+ghost use Rattle.std.specs.Prelude.{◌≡◌, ◌==◌, ◌+◌, ◌/◌, ◌%◌, ◌<◌, ◌≤◌, ◌^◌, length};
+ghost use Rattle.sim_base.specs.Values.{IsPut, width_at};
 ghost use Rattle.cell_wide.specs.Words.{Passes};
 
 use crate::words::Words;
-use signal_words::put_word;
-use sim_base::Bits;
+use sim_base::Values;
 
 /// Reads the next `n` digits. Most are whole words, which are told apart so that they are read without a mask.
 #[inline(always)]
@@ -21,38 +20,23 @@ fn next_word<W: Words>(words: &mut W, n: u32) -> u64
     }
 }
 
-/// Reads `n` digits of a value from `at` on, whole words again without a mask.
-#[inline(always)]
-fn word_at(value: &Bits, at: u32, n: u32) -> u64
-    requires small { n ≤ 64 }
-    requires inside { at + n ≤ value.now.width }
-    ensures { result ≡ value.now.number / 2 ^ at % 2 ^ n }
-{
-    if n == 64 {
-        value.field(at, 64)
-    } else {
-        value.field(at, n)
-    }
-}
-
 /// Writes as many of the digits as the value has bits, and tells whether that changed it.
-pub fn write<W: Words>(words: &mut W, into: &mut Bits) -> bool
-    ensures { IsWritten (W.low words.old into.old.width) into.old into.new result }
+pub fn write<W: Words>(words: &mut W, into: &mut Values, out: u32) -> bool
+    requires { out < length into.old }
+    ensures { IsPut out (W.low words.old (width_at into.old out)) into.old into.new result }
 {
-    let width = into.width();
+    let width = into.width(out);
     if width <= 64 {
         let word = words.next(width);
-        return put_word(into, word);
+        return into.put_word(out, word);
     }
     let mut changed = false;
     let mut at = 0u32;
     while at < width {
         let n = (width - at).min(64);
         let word = next_word(words, n);
-        if word_at(into, at, n) != word {
-            into.put_field(at, n, word);
-            changed = true;
-        }
+        let part = into.put_word_at(out, at / 64, word);
+        changed |= part;
         at += n;
     }
     changed

@@ -2,7 +2,8 @@
 use Rattle.std.proofs.Common.{◌≡◌, ℕ, ◌+◌, ◌-◌, ◌*◌, ◌/◌, ◌%◌, ◌^◌, ◌<◌, ◌≤◌, refl, sym, ◌∙◌, ap, arith, inl, inr, subst, min, Bool, true, false, cond, ◌&&◌, ◌⊎◌}
 use Rattle.std.proofs.lemmas.Bool.{cases_lt, eq-eqb, ne_eqb, cond-true}
 use Rattle.std.specs.Prelude.{◌==◌, ℤ, pos, negsuc, ◌-ℤ◌, int_lt}
-use Rattle.std.proofs.lemmas.Nat.{mod_below, pow_pos, pow-add, div-add-mod', shr_below}
+use Rattle.std.proofs.lemmas.Bool.Decides.{eqb_tells}
+use Rattle.std.proofs.lemmas.Nat.{same_from_place, mod_below, pow_pos, pow-add, div-add-mod', shr_below}
 use Rattle.std.proofs.lemmas.Int.{ints}
 use borrow.Author.Differences.{up, down}
 use Rattle.sim_base.specs.BitValue.{BitValue, bit_value}
@@ -10,7 +11,16 @@ use Rattle.circuit.specs.Output.{operand}
 use Rattle.signal_words.proofs.Told.{eq_from}
 use Rattle.cell_words.specs.Wholes.{magnitude}
 use Rattle.cell_words.specs.Shifts.{farthest, all_ones, is_below_zero, IsAmount}
-use Rattle.cell_words.proofs.Filled.{same_places}
+
+-- whether lower parts and higher parts are the same
+pub same_places : (a b c d m : ℕ) → b < m → d < m → (a * m + b == c * m + d) ≡ ((b == d) && (a == c))
+same_places a b c d m p q = elim (eqb_tells b d) [
+  | inl low ↦ (elim (eqb_tells a c) [
+    | inl high ↦ eq-eqb (a * m + b) (c * m + d) (let e : a * m ≡ c * m = ap (λ t. t * m) high.1 in omega (arith, low.1)) ∙ rw (low.0, high.0) refl
+    | inr high ↦ ne_eqb (a * m + b) (c * m + d) (λ e. let r = same_from_place a b c d m p q e in high.1 r.0) ∙ rw (low.0, high.0) refl
+  ])
+  | inr low ↦ ne_eqb (a * m + b) (c * m + d) (λ e. let r = same_from_place a b c d m p q e in low.1 r.1) ∙ rw (low.0) refl
+]
 
 ones_split : (ones : Bool) (n left : ℕ) → n ≤ left → all_ones ones left ≡ all_ones ones (left - n) * 2 ^ n + all_ones ones n
 ones_split true n left le =

@@ -1,10 +1,9 @@
 mod Wholes
 mod Shifted
 mod Sources
-mod Filled
+mod TwoWords
 mod Taken
 mod Distances
 mod Pieces
 mod Combined
 mod Compared
-mod OneWord

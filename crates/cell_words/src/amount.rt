@@ -9,7 +9,7 @@ use crate::narrow::is_below_zero as is_word_below_zero;
 use crate::shift::Amount;
 use circuit::Piece;
 use signal_words::{SigReader, SigWord, one_word, ones_word, sig_bit, sig_width, word_of};
-use sim_base::Bits;
+use sim_base::Values;
 
 /// No shift moves digits by more places: twice the largest width.
 const FARTHEST: u32 = 131_072;
@@ -49,7 +49,7 @@ fn flipped(word: u64, n: u32, ones: bool) -> u64
 }
 
 /// How far a number of so many digits is above 0, or below the digits that are all 1.
-fn distance(sig: &[Piece], nets: &[Bits], ones: bool) -> u32
+fn distance(sig: &[Piece], nets: &Values, ones: bool) -> u32
     requires inside { AreInside nets.now sig.now }
     requires fits { sig_width sig.now ≤ 65536 }
     ensures below { sig_number (digits_in nets.now) sig.now < 2 ^ sig_width sig.now }
@@ -84,7 +84,7 @@ fn amount_of_word(word: SigWord, signed: bool) -> Amount
 
 /// The number of places that an operand of any width asks for, which is read word by word.
 #[inline(never)]
-fn amount_of_words(sig: &[Piece], nets: &[Bits], signed: bool) -> Amount
+fn amount_of_words(sig: &[Piece], nets: &Values, signed: bool) -> Amount
     requires inside { AreInside nets.now sig.now }
     requires fits { sig_width sig.now ≤ 65536 }
     ensures { IsAmount result (operand signed (sig_width sig.now) (sig_number (digits_in nets.now) sig.now)) }
@@ -102,7 +102,7 @@ fn amount_of_words(sig: &[Piece], nets: &[Bits], signed: bool) -> Amount
 
 /// The number of places that an operand of any pieces asks for.
 #[inline(never)]
-fn amount_of_pieces(sig: &[Piece], nets: &[Bits], signed: bool) -> Amount
+fn amount_of_pieces(sig: &[Piece], nets: &Values, signed: bool) -> Amount
     requires inside { AreInside nets.now sig.now }
     requires fits { sig_width sig.now ≤ 65536 }
     ensures { IsAmount result (operand signed (sig_width sig.now) (sig_number (digits_in nets.now) sig.now)) }
@@ -115,7 +115,7 @@ fn amount_of_pieces(sig: &[Piece], nets: &[Bits], signed: bool) -> Amount
 
 /// The number of places that an operand asks for, in two's complement where signed.
 #[inline(always)]
-pub fn amount_of(sig: &[Piece], nets: &[Bits], signed: bool) -> Amount
+pub fn amount_of(sig: &[Piece], nets: &Values, signed: bool) -> Amount
     requires inside { AreInside nets.now sig.now }
     requires fits { sig_width sig.now ≤ 65536 }
     ensures { IsAmount result (operand signed (sig_width sig.now) (sig_number (digits_in nets.now) sig.now)) }
@@ -127,7 +127,7 @@ pub fn amount_of(sig: &[Piece], nets: &[Bits], signed: bool) -> Amount
 }
 
 /// Whether a signal stands for a number below 0, in two's complement where signed.
-pub fn is_below_zero(sig: &[Piece], nets: &[Bits], signed: bool) -> bool
+pub fn is_below_zero(sig: &[Piece], nets: &Values, signed: bool) -> bool
     requires inside { AreInside nets.now sig.now }
     requires fits { sig_width sig.now ≤ 65536 }
     ensures { result ≡ is_below_zero signed (sig_width sig.now) (sig_number (digits_in nets.now) sig.now) }

@@ -6,7 +6,7 @@ ghost use Rattle.cell_words.specs.Shifts.{is_below_zero};
 
 use circuit::Piece;
 use signal_words::{SigReader, SigWord, sig_width, sig_word};
-use sim_base::Bits;
+use sim_base::Values;
 
 /// The value of a port of at most 128 bits.
 #[derive(Clone, Copy, Debug)]
@@ -40,7 +40,7 @@ impl Port {
 }
 
 /// The value of a port of any pieces.
-pub fn port_of(sig: &[Piece], nets: &[Bits]) -> Port
+pub fn port_of(sig: &[Piece], nets: &Values) -> Port
     requires inside { AreInside nets.now sig.now }
     requires narrow { sig_width sig.now ≤ 128 }
     ensures width { result.width ≡ sig_width sig.now }

@@ -5,7 +5,7 @@ ghost use Rattle.circuit.specs.declared.netlist.Piece.{Piece};
 ghost use Rattle.circuit.specs.Output.{CellInputs, operand, output};
 ghost use Rattle.circuit.specs.Signal.{sig_value};
 ghost use Rattle.signal_words.specs.Values.{digits_in, IsSignalOf, IsWordOf};
-ghost use Rattle.signal_words.specs.Written.{IsWritten};
+ghost use Rattle.sim_base.specs.Values.{IsPut, width_at};
 ghost use Rattle.cell_words.specs.Kinds.{is_one_sided, is_shift};
 ghost use Rattle.cell_words.specs.Ready.{IsShiftReady};
 ghost use Rattle.cell_words.specs.Shifts.{places};
@@ -15,11 +15,13 @@ use crate::narrow::is_below_zero as is_word_below_zero;
 use crate::port::Port;
 use crate::shift::{moved_word, shift_of, shifted_plainly};
 use crate::source::{Source, fill};
-use crate::values::{is_negative, is_one_word, low_digits};
+use crate::values::is_negative;
 use crate::write::{put_low, put_low_word};
 use circuit::{Cell, Op};
-use signal_words::{SigWord, one_word, only_word, put_only_word, sig_width, whole_value, word_of};
-use sim_base::Bits;
+use signal_words::{
+    SigWord, is_one_word, one_word, sig_width, whole_value, word_of, word_of_value,
+};
+use sim_base::{Values, low_digits};
 
 /// Whether the second operand has a sign, which it has in two types alone.
 fn is_amount_signed(cell: &Cell) -> bool
@@ -34,22 +36,22 @@ fn is_amount_signed(cell: &Cell) -> bool
 
 /// A shift of many words, word by word.
 #[inline(never)]
-fn shifted_words(cell: &Cell, nets: &[Bits], into: &mut Bits) -> bool
+fn shifted_words(cell: &Cell, nets: &Values, into: &mut Values, out: u32) -> bool
     requires kind { is_shift cell.now.op ≡ true }
-    requires ready { IsShiftReady nets.now cell.now into.old }
-    ensures { IsWritten (output (digits_in nets.now) cell.now) into.old into.new result }
+    requires ready { IsShiftReady nets.now cell.now into.old out }
+    ensures { IsPut out (output (digits_in nets.now) cell.now) into.old into.new result }
 {
     let a = cell.a.as_slice();
     let negative = is_below_zero(a, nets, cell.a_signed);
     let amount = amount_of(cell.b.as_slice(), nets, is_amount_signed(cell));
     let shift = shift_of(cell, sig_width(a), negative, amount);
     let mut source = Source::new(a, nets, shift);
-    fill(into, &mut source)
+    fill(into, out, &mut source)
 }
 
 /// The output of a shift of one word.
 #[inline(always)]
-fn shifted_number(cell: &Cell, nets: &[Bits], a: SigWord) -> u128
+fn shifted_number(cell: &Cell, nets: &Values, a: SigWord) -> u128
     requires kind { is_shift cell.now.op ≡ true }
     requires width { cell.now.width ≤ 64 }
     requires a { IsWordOf nets.now cell.now.a a.width a.number }
@@ -66,26 +68,26 @@ fn shifted_number(cell: &Cell, nets: &[Bits], a: SigWord) -> u128
 
 /// A shift of a first operand of any pieces.
 #[inline(never)]
-fn shifted_pieces(cell: &Cell, nets: &[Bits], into: &mut Bits) -> bool
+fn shifted_pieces(cell: &Cell, nets: &Values, into: &mut Values, out: u32) -> bool
     requires kind { is_shift cell.now.op ≡ true }
-    requires ready { IsShiftReady nets.now cell.now into.old }
-    ensures { IsWritten (output (digits_in nets.now) cell.now) into.old into.new result }
+    requires ready { IsShiftReady nets.now cell.now into.old out }
+    ensures { IsPut out (output (digits_in nets.now) cell.now) into.old into.new result }
 {
     match word_of(cell.a.as_slice(), nets) {
         Some(a) if cell.width <= 64 => {
             let number = shifted_number(cell, nets, a);
-            put_low(into, number)
+            put_low(into, out, number)
         }
-        _ => shifted_words(cell, nets, into),
+        _ => shifted_words(cell, nets, into, out),
     }
 }
 
 /// A shift, in words where each operand is one piece of at most 64 bits and neither is below 0.
 #[inline(always)]
-pub fn shifted(cell: &Cell, nets: &[Bits], into: &mut Bits) -> bool
+pub fn shifted(cell: &Cell, nets: &Values, into: &mut Values, out: u32) -> bool
     requires kind { is_shift cell.now.op ≡ true }
-    requires ready { IsShiftReady nets.now cell.now into.old }
-    ensures { IsWritten (output (digits_in nets.now) cell.now) into.old into.new result }
+    requires ready { IsShiftReady nets.now cell.now into.old out }
+    ensures { IsPut out (output (digits_in nets.now) cell.now) into.old into.new result }
 {
     if let Some(a) = one_word(cell.a.as_slice(), nets) {
         if let Some(b) = one_word(cell.b.as_slice(), nets) {
@@ -93,60 +95,42 @@ pub fn shifted(cell: &Cell, nets: &[Bits], into: &mut Bits) -> bool
                 || is_word_below_zero(b, cell.b_signed);
             if cell.width <= 64 && !below {
                 let number = shifted_plainly(cell.op, a.number, b.number);
-                return put_low_word(into, number);
+                return put_low_word(into, out, number);
             }
         }
     }
-    shifted_pieces(cell, nets, into)
+    shifted_pieces(cell, nets, into, out)
 }
 
 /// A shift of operands that are not whole values. It stands apart so that the ways for whole values stay short.
 #[inline(never)]
-fn shifted_parts(cell: &Cell, nets: &[Bits], into: &mut Bits) -> bool
+fn shifted_parts(cell: &Cell, nets: &Values, into: &mut Values, out: u32) -> bool
     requires kind { is_shift cell.now.op ≡ true }
-    requires ready { IsShiftReady nets.now cell.now into.old }
-    ensures { IsWritten (output (digits_in nets.now) cell.now) into.old into.new result }
+    requires ready { IsShiftReady nets.now cell.now into.old out }
+    ensures { IsPut out (output (digits_in nets.now) cell.now) into.old into.new result }
 {
-    shifted(cell, nets, into)
-}
-
-/// The word that a value is.
-#[inline(always)]
-fn word_of_value(value: &Bits) -> SigWord
-    requires some { 0 < value.now.width }
-    requires small { value.now.width ≤ 64 }
-    ensures word { (nets : List BitValue) (sig : List Piece) → value.now ≡ sig_value (digits_in nets) sig → IsWordOf nets sig result.width result.number }
-    ensures small { result.width ≤ 64 }
-    ensures below { result.number < 2 ^ result.width }
-{
-    SigWord {
-        width: value.width(),
-        number: only_word(value),
-    }
+    shifted(cell, nets, into, out)
 }
 
 /// A shift, and in one word where the ports are whole values of one word and the first is not below 0.
 #[inline(always)]
-pub fn shift(op: Op, cell: &Cell, nets: &[Bits], into: &mut Bits) -> bool
+pub fn shift(op: Op, cell: &Cell, nets: &Values, into: &mut Values, out: u32) -> bool
     requires kind { is_one_sided op ≡ true }
     requires op { cell.now.op ≡ op }
-    requires ready { IsShiftReady nets.now cell.now into.old }
-    ensures { IsWritten (output (digits_in nets.now) cell.now) into.old into.new result }
+    requires ready { IsShiftReady nets.now cell.now into.old out }
+    ensures { IsPut out (output (digits_in nets.now) cell.now) into.old into.new result }
 {
-    let width = into.width();
-    match (
-        whole_value(cell.a.as_slice(), nets),
-        whole_value(cell.b.as_slice(), nets),
-    ) {
-        (Some(a), Some(b))
-            if is_one_word(width) && is_one_word(a.width()) && is_one_word(b.width()) => {
-            let (a, b) = (word_of_value(a), word_of_value(b));
-            if !is_negative(cell.a_signed, a.width, a.number) {
-                let number = shifted_plainly(op, a.number, b.number);
-                return put_only_word(into, low_digits(number, width));
+    let width = cell.width;
+    if let Some(a) = whole_value(cell.a.as_slice(), nets) {
+        if let Some(b) = whole_value(cell.b.as_slice(), nets) {
+            if is_one_word(width) && is_one_word(a.width()) && is_one_word(b.width()) {
+                let (a, b) = (word_of_value(&a), word_of_value(&b));
+                if !is_negative(cell.a_signed, a.width, a.number) {
+                    let number = shifted_plainly(op, a.number, b.number);
+                    return into.put_word(out, low_digits(number, width));
+                }
             }
         }
-        _ => {}
     }
-    shifted_parts(cell, nets, into)
+    shifted_parts(cell, nets, into, out)
 }

@@ -1,16 +1,15 @@
 //! The digits of a moved operand, read from the least on.
-ghost use Rattle.std.specs.Prelude.{◌≡◌, ◌+◌, ◌-◌, ◌*◌, ◌/◌, ◌%◌, ◌^◌, ◌<◌, ◌≤◌, ◌==◌, not};
+ghost use Rattle.std.specs.Prelude.{◌≡◌, ◌+◌, ◌-◌, ◌*◌, ◌/◌, ◌%◌, ◌^◌, ◌<◌, ◌≤◌, ◌==◌, not, length};
 ghost use Rattle.sim_base.specs.BitValue.{bit_value};
 ghost use Rattle.circuit.specs.Signal.{sig_value, sig_width};
 ghost use Rattle.signal_words.specs.Values.{digits_in, AreInside};
-ghost use Rattle.signal_words.specs.Written.{IsWritten};
+ghost use Rattle.sim_base.specs.Values.{IsPut, width_at};
 ghost use Rattle.cell_words.specs.Shifts.{extended, moved};
 
 use crate::shift::Shift;
-use crate::write::put_part;
 use circuit::Piece;
 use signal_words::{SigReader, ones_word, sig_width};
-use sim_base::Bits;
+use sim_base::Values;
 use std::marker::Model;
 
 /// A signal with digits 1 in front of its own, seen as the number of the digits that are left to be read.
@@ -48,7 +47,7 @@ fn with_ones(word: u64, own: u32, ones: u32) -> u64
 
 impl<'a> Extended<'a> {
     /// A signal with so many digits 1 in front.
-    pub fn new(sig: &'a [Piece], nets: &'a [Bits], ones: u32) -> Extended<'a>
+    pub fn new(sig: &'a [Piece], nets: &'a Values, ones: u32) -> Extended<'a>
         requires inside { AreInside nets.now sig.now }
         requires fits { sig_width sig.now < 2 ^ 32 }
         ensures { result ≡ extended ones (sig_value (digits_in nets.now) sig.now) }
@@ -103,7 +102,7 @@ impl<'a> Model for Source<'a> {
 
 impl<'a> Source<'a> {
     /// A signal that is moved.
-    pub fn new(sig: &'a [Piece], nets: &'a [Bits], shift: Shift) -> Source<'a>
+    pub fn new(sig: &'a [Piece], nets: &'a Values, shift: Shift) -> Source<'a>
         requires inside { AreInside nets.now sig.now }
         requires fits { sig_width sig.now < 2 ^ 32 }
         ensures { result ≡ moved shift (sig_value (digits_in nets.now) sig.now) }
@@ -133,16 +132,17 @@ impl<'a> Source<'a> {
 }
 
 /// Makes the value's number that of the digits, as far as it has bits, and answers whether that changed it.
-pub fn fill(into: &mut Bits, source: &mut Source) -> bool
-    ensures { IsWritten (source.old % 2 ^ into.old.width) into.old into.new result }
+pub fn fill(into: &mut Values, out: u32, source: &mut Source) -> bool
+    requires { out < length into.old }
+    ensures { IsPut out (source.old % 2 ^ (width_at into.old out)) into.old into.new result }
 {
-    let width = into.width();
+    let width = into.width(out);
     let mut changed = false;
     let mut done = 0u32;
     while done < width {
         let n = (width - done).min(64);
         let word = source.take(n);
-        let part = put_part(into, done, n, word);
+        let part = into.put_word_at(out, done / 64, word);
         changed |= part;
         done += n;
     }

@@ -7,24 +7,6 @@ ghost use Rattle.cell_words.specs.Kinds.{is_comparison, is_modular};
 
 use circuit::Op;
 
-/// Whether a value of this width has one word.
-#[inline(always)]
-pub fn is_one_word(width: u32) -> bool
-    ensures { IsTrue result ↔ ((0 < width) × (width ≤ 64)) }
-{
-    width > 0 && width <= 64
-}
-
-/// The lowest digits of a word, as many as a value of one word has.
-#[inline(always)]
-pub fn low_digits(word: u64, width: u32) -> u64
-    requires some { 0 < width }
-    requires small { width ≤ 64 }
-    ensures { result ≡ word % 2 ^ width }
-{
-    word & (u64::MAX >> (64 - width))
-}
-
 /// A sum, a difference or a product, whose lowest digits are those of the operands' lowest digits.
 #[inline(always)]
 pub fn combined(op: Op, a: u64, b: u64) -> u64

@@ -8,13 +8,13 @@ mod diagnostic;
 mod fault;
 mod item;
 mod laws;
+mod listing;
 mod memory;
 mod netlist;
 mod register;
 mod shape;
 mod store;
 mod validity;
-mod values;
 mod worked;
 
 pub use built::{law_of_growth, law_of_order, law_of_parts, law_of_slots, law_of_validity};
@@ -27,11 +27,11 @@ pub use laws::{
     law_of_settling, law_of_showing, law_of_succession, law_of_widths, law_of_writing,
     length_of_run, one_valuation,
 };
+pub use listing::Listing;
 pub use memory::{Mem, ReadPort, WritePort};
 pub use netlist::{By, Circuit, Drive, Net, Piece, Sig};
 pub use register::{Polarity, Reg, RegKind};
-pub use store::Store;
-pub use values::Values;
+pub use store::{Store, start_regs};
 pub use worked::{
     worked_arithmetic, worked_registers, worked_rounds, worked_runs, worked_selections,
     worked_slots,

@@ -4,22 +4,22 @@ ghost use Rattle.sim_base.specs.BitValue.{zeros};
 ghost use Rattle.circuit.specs.Store.{start_read, start_store};
 
 use crate::cell::Cell;
+use crate::listing::Listing;
 use crate::memory::{Mem, ReadPort};
 use crate::netlist::{Circuit, Net};
 use crate::register::Reg;
-use crate::values::Values;
-use sim_base::{Bits, NoMemory};
+use sim_base::{Bits, NoMemory, Values};
 use std::alloc::Global;
 
 /// The value of each part of a circuit, in the circuit's order.
 #[derive(Debug, Drop)]
 pub struct Store {
-    pub nets: Values<Bits>,
+    pub nets: Values,
     /// The outputs of the combinational cells.
-    pub cells: Values<Bits>,
-    pub regs: Values<Bits>,
+    pub cells: Values,
+    pub regs: Values,
     /// For each memory the value of each of its read ports.
-    pub reads: Values<Values<Bits>>,
+    pub reads: Listing<Listing<Bits>>,
 }
 
 impl Store {
@@ -36,32 +36,45 @@ impl Store {
     }
 }
 
-fn start_nets(alloc: Global, nets: &[Net]) -> Result<Values<Bits>, NoMemory>
+fn start_nets(alloc: Global, nets: &[Net]) -> Result<Values, NoMemory>
     ensures { IfOk result (λ values. values ≡ map (λ n. zeros n.width) nets.now) }
 {
-    let mut values = Values::new(alloc);
+    let mut widths = Vec::new(alloc);
     for net in nets {
-        values.push(Bits::zero(alloc, net.width)?)?;
+        widths.push(net.width)?;
     }
-    Ok(values)
+    Values::new(alloc, widths.as_slice())
 }
 
-fn start_cells(alloc: Global, cells: &[Cell]) -> Result<Values<Bits>, NoMemory>
+fn start_cells(alloc: Global, cells: &[Cell]) -> Result<Values, NoMemory>
     ensures { IfOk result (λ values. values ≡ map (λ x. zeros x.width) cells.now) }
 {
-    let mut values = Values::new(alloc);
+    let mut widths = Vec::new(alloc);
     for cell in cells {
-        values.push(Bits::zero(alloc, cell.width)?)?;
+        widths.push(cell.width)?;
     }
-    Ok(values)
+    Values::new(alloc, widths.as_slice())
 }
 
-fn start_regs(alloc: Global, regs: &[Reg]) -> Result<Values<Bits>, NoMemory>
+/// Zeros of the widths of the registers' start values.
+fn reg_zeros(alloc: Global, regs: &[Reg]) -> Result<Values, NoMemory>
+    ensures { IfOk result (λ values. values ≡ map zeros (map (λ v. v.width) (map (λ r. r.init) regs.now))) }
+{
+    let mut widths = Vec::new(alloc);
+    for reg in regs {
+        widths.push(reg.init.width())?;
+    }
+    Values::new(alloc, widths.as_slice())
+}
+
+/// The values of registers before the first sample.
+pub fn start_regs(alloc: Global, regs: &[Reg]) -> Result<Values, NoMemory>
     ensures { IfOk result (λ values. values ≡ map (λ r. r.init) regs.now) }
 {
-    let mut values = Values::new(alloc);
-    for reg in regs {
-        values.push(reg.init.try_clone(alloc)?)?;
+    let mut values = reg_zeros(alloc, regs)?;
+    let _ = values.len();
+    for (n, reg) in regs.iter().enumerate() {
+        values.put(n as u32, &reg.init.view());
     }
     Ok(values)
 }
@@ -76,20 +89,20 @@ fn start_read(alloc: Global, mem: &Mem, port: &ReadPort) -> Result<Bits, NoMemor
     }
 }
 
-fn start_reads(alloc: Global, mem: &Mem) -> Result<Values<Bits>, NoMemory>
+fn start_reads(alloc: Global, mem: &Mem) -> Result<Listing<Bits>, NoMemory>
     ensures { IfOk result (λ values. values ≡ map (start_read mem.now) mem.now.reads) }
 {
-    let mut values = Values::new(alloc);
+    let mut values = Listing::new(alloc);
     for port in mem.reads.as_slice() {
         values.push(start_read(alloc, mem, port)?)?;
     }
     Ok(values)
 }
 
-fn start_mems(alloc: Global, mems: &[Mem]) -> Result<Values<Values<Bits>>, NoMemory>
+fn start_mems(alloc: Global, mems: &[Mem]) -> Result<Listing<Listing<Bits>>, NoMemory>
     ensures { IfOk result (λ values. values ≡ map (λ m. map (start_read m) m.reads) mems.now) }
 {
-    let mut values = Values::new(alloc);
+    let mut values = Listing::new(alloc);
     for mem in mems {
         values.push(start_reads(alloc, mem)?)?;
     }

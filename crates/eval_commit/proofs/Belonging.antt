@@ -27,7 +27,8 @@ use Rattle.driver_check.proofs.Fitting.{fits_inside}
 use Rattle.eval_plan.proofs.Given.{root_fits}
 use Rattle.driver_check.proofs.Places.{found, read, same, within}
 use Rattle.signal_words.specs.Stores.{IsStoreOf}
-use Rattle.signal_words.specs.Values.{digits_in, numbers, width_at, widths}
+use Rattle.sim_base.specs.Values.{numbers, width_at, widths}
+use Rattle.signal_words.specs.Values.{digits_in}
 use Rattle.signal_words.proofs.Fitting.{mapped_at}
 use Rattle.eval_commit.specs.Computed.{cell_number, port_row, read_number}
 use Rattle.eval_commit.specs.Spread.{AreRootsInside, IsSpread, offset_of}

@@ -17,7 +17,7 @@ use Rattle.eval_plan.specs.Roots.{AreRoots}
 use Rattle.eval_plan.proofs.Given.{root_fits}
 use Rattle.driver_check.proofs.Places.{found}
 use Rattle.signal_words.specs.Stores.{IsStoreOf}
-use Rattle.signal_words.specs.Values.{widths}
+use Rattle.sim_base.specs.Values.{widths}
 use Rattle.signal_words.proofs.Fitting.{mapped_at}
 use Rattle.eval_commit.specs.Held.{HasKept, Kept, is_kept, kept_value}
 use Rattle.eval_commit.specs.Round.{AreInputsOf}

@@ -38,11 +38,8 @@ module _ (c : Circuit) (plan : Plan) (stuck : Bool) (r : Rounds) (m : MachineSta
   nets_long : length r.before.nets ≡ length c.nets
   nets_long = long_as (λ (v : BitValue). v.width) (λ (x : Net). x.width) r.before.nets c.nets are.before.nets
 
-  pub net_within : (n : ℕ) (ys : List BitValue) → n < length m.circuit.nets → ys ≡ r.before.nets → n < length ys
-  net_within n ys lt is =
-      let l : length m.circuit.nets ≡ length c.nets = ap (λ (x : Circuit). length x.nets) circuit_is in
-      let k : length ys ≡ length r.before.nets = ap length is in
-      omega (arith, lt, l, k, nets_long)
+  pub net_there : (n : ℕ) → n < length m.circuit.nets → n < length r.before.nets
+  net_there n lt = let l : length m.circuit.nets ≡ length c.nets = ap (λ (x : Circuit). length x.nets) circuit_is in omega (arith, lt, l, nets_long)
 
   pub net_number : (n : ℕ) (ys : List BitValue) (v : BitValue) (s : Standing) → n < length m.circuit.nets → ys ≡ r.before.nets → v ≡ get_or ys n v → m.standing ≡ Some s → v.number ≡ slice_index s.nets n
   net_number n ys v s lt is item at =

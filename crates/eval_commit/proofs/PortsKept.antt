@@ -21,7 +21,7 @@ use Rattle.circuit.specs.declared.store.Store.{Store}
 use Rattle.driver_check.proofs.Places.{found, same, was_set, within}
 use Rattle.memory_cells.specs.Ports.{stored}
 use Rattle.memory_cells.specs.Rows.{AreRowsOf, RowValues, start_rows}
-use Rattle.signal_words.specs.Values.{numbers, widths}
+use Rattle.sim_base.specs.Values.{numbers, widths}
 use Rattle.signal_words.proofs.Fitting.{memory_of}
 use Rattle.eval_commit.specs.Computed.{AreAllRows}
 use Rattle.eval_commit.specs.Round.{Holds}

@@ -5,7 +5,7 @@ use Rattle.std.specs.Cmp.Lexicographic.{pointwise}
 use Rattle.std.proofs.lemmas.Bool.Decides.{nat_tests}
 use Rattle.std.proofs.lemmas.List.{length-map, map-set}
 use Rattle.sim_base.specs.BitValue.{BitValue, bit_value}
-use Rattle.signal_words.specs.Values.{numbers, widths}
+use Rattle.sim_base.specs.Values.{numbers, widths}
 use Rattle.circuit.specs.Signal.{Digits}
 use Rattle.circuit.specs.Next.{next_number, next_numbers}
 use Rattle.circuit.specs.declared.register.Reg.{Reg}

@@ -30,7 +30,8 @@ use Rattle.eval_plan.proofs.Given.{root_fits}
 use Rattle.driver_check.proofs.Places.{found, same, within}
 use Rattle.memory_cells.specs.Rows.{RowValues}
 use Rattle.signal_words.specs.Stores.{IsStoreOf}
-use Rattle.signal_words.specs.Values.{digits_in, numbers}
+use Rattle.sim_base.specs.Values.{numbers}
+use Rattle.signal_words.specs.Values.{digits_in}
 use Rattle.eval_commit.specs.Computed.{AreAllRows, cell_number, computed, node_row}
 use Rattle.eval_commit.specs.Held.{HasKept, IsSeeded, is_kept, kept_value}
 use Rattle.eval_commit.specs.Round.{Holds, IsBlank}

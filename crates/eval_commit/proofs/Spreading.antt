@@ -9,7 +9,8 @@ use Rattle.circuit.specs.Valuation.{covers}
 use Rattle.circuit.specs.declared.netlist.Drive.{Drive}
 use Rattle.driver_check.specs.Depends.{Bit}
 use Rattle.driver_check.proofs.Places.{read, same, within}
-use Rattle.signal_words.specs.Values.{digits_in, width_at, widths}
+use Rattle.sim_base.specs.Values.{width_at, widths}
+use Rattle.signal_words.specs.Values.{digits_in}
 use Rattle.eval_plan.specs.Roots.{AreApart}
 use Rattle.eval_commit.specs.Spread.{IsRootInside, IsSpread, offset_of, taken_digit}
 use Rattle.eval_commit.specs.Held.{HasKept, IsSeeded, Kept, is_kept, kept_value}

@@ -16,7 +16,7 @@ use Rattle.circuit.specs.declared.store.Store.{Store}
 use Rattle.eval_plan.specs.declared.plan.Plan.{Plan}
 use Rattle.memory_cells.specs.Rows.{RowValues, start_rows}
 use Rattle.signal_words.specs.Stores.{IsStoreOf}
-use Rattle.signal_words.specs.Values.{numbers, widths}
+use Rattle.sim_base.specs.Values.{numbers, widths}
 use Rattle.eval_commit.specs.Computed.{AreAllRows}
 use Rattle.eval_commit.specs.Fired.{none_fired}
 use Rattle.eval_commit.specs.Round.{IsBlank, input_width}

@@ -16,7 +16,7 @@ use Rattle.circuit.specs.declared.register.Reg.{Reg}
 use Rattle.circuit.specs.declared.memory.Mem.{Mem}
 use Rattle.circuit.specs.declared.memory.ReadPort.{ReadPort}
 use Rattle.memory_cells.specs.Rows.{AreRowsOf, RowValues, start_rows}
-use Rattle.signal_words.specs.Values.{numbers, widths}
+use Rattle.sim_base.specs.Values.{numbers, widths}
 use Rattle.eval_commit.specs.Computed.{AreAllRows}
 use Rattle.eval_commit.specs.Round.{AreInputsOf, Holds, IsBlank, input_width}
 

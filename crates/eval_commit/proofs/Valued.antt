@@ -18,7 +18,8 @@ use Rattle.eval_plan.specs.Roots.{AreRoots}
 use Rattle.driver_check.proofs.Fitting.{fits_inside}
 use Rattle.driver_check.proofs.Owned.{covers_parts}
 use Rattle.driver_check.proofs.Places.{found, same}
-use Rattle.signal_words.specs.Values.{digits_in, numbers, widths}
+use Rattle.sim_base.specs.Values.{numbers, widths}
+use Rattle.signal_words.specs.Values.{digits_in}
 use Rattle.eval_commit.proofs.Meaning.{undriven_right}
 
 gathered_same : (n w : ℕ) (d : ℕ → ℕ) → ((i : ℕ) → bit_at n i ≡ d i) → ((i : ℕ) → w ≤ i → d i ≡ 0) → n ≡ gathered d w

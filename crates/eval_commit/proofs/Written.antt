@@ -12,8 +12,18 @@ use Rattle.circuit.specs.Valuation.{covers}
 use Rattle.circuit.specs.declared.netlist.Drive.{Drive}
 use Rattle.driver_check.specs.Depends.{Bit}
 use Rattle.driver_check.proofs.Places.{within}
-use Rattle.signal_words.specs.Values.{digits_in, numbers, widths}
+use Rattle.sim_base.specs.Values.{numbers, value_at, widths}
+use Rattle.signal_words.specs.Values.{digits_in}
 use Rattle.eval_commit.specs.Spread.{offset_of, taken_digit}
+
+-- a value that is read
+pub viewed : (values : List BitValue) (n : ℕ) (v : BitValue) → n < length values → v ≡ value_at values n → slice_get values n ≡ Some v
+viewed [] n v lt e = absurd (omega (arith, lt))
+viewed (x ∷ xs) zero v lt e = ap (λ (u : BitValue). Some u) (sym e)
+viewed (x ∷ xs) (suc n) v lt e = viewed xs n v (omega (arith, lt)) e
+
+pub view_read : (values : List BitValue) (n : ℕ) (v : BitValue) → n < length values → v ≡ value_at values n → v ≡ get_or values n v
+view_read values n v lt e = sym (get_or_from_slice_get values n v v (viewed values n v lt e))
 
 pub put_widths : (nets : List BitValue) (n : ℕ) (x y : BitValue) → slice_get nets n ≡ Some x → y.width ≡ x.width → widths (set nets n y) ≡ widths nets
 put_widths nets n x y at e =

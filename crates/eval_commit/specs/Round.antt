@@ -10,7 +10,8 @@ use Rattle.circuit.specs.declared.store.Store.{Store}
 use Rattle.driver_check.specs.Depends.{Bit}
 use Rattle.eval_plan.specs.Roots.{CoversIn}
 use Rattle.memory_cells.specs.Rows.{RowValues}
-use Rattle.signal_words.specs.Values.{digits_in, numbers, widths}
+use Rattle.sim_base.specs.Values.{numbers, widths}
+use Rattle.signal_words.specs.Values.{digits_in}
 
 -- the width of an input, which is a net
 abbrev pub input_width : Circuit → ℕ → ℕ

@@ -6,7 +6,7 @@ use Rattle.circuit.specs.declared.netlist.Circuit.{Circuit}
 use Rattle.eval_plan.specs.declared.plan.Plan.{Plan}
 use Rattle.sim_base.specs.BitValue.{BitValue}
 use Rattle.signal_words.specs.Stores.{IsStoreOf}
-use Rattle.signal_words.specs.Values.{numbers, widths}
+use Rattle.sim_base.specs.Values.{numbers, widths}
 use Rattle.eval_commit.specs.Computed.{AreAllRows}
 use Rattle.eval_commit.specs.Round.{IsBlank}
 use Rattle.eval_commit.specs.Stored.{kept_state}

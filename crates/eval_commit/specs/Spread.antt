@@ -7,7 +7,8 @@ use Rattle.circuit.specs.declared.netlist.By.{By}
 use Rattle.circuit.specs.declared.netlist.By.TheVariants as by
 use Rattle.driver_check.specs.Depends.{Bit}
 use Rattle.eval_plan.specs.Roots.{CoversIn}
-use Rattle.signal_words.specs.Values.{digits_in, width_at}
+use Rattle.sim_base.specs.Values.{width_at}
+use Rattle.signal_words.specs.Values.{digits_in}
 
 -- the first bit that is taken of what drives
 abbrev pub offset_of : By → ℕ

@@ -4,7 +4,7 @@ use Rattle.sim_base.specs.BitValue.{BitValue}
 use Rattle.circuit.specs.State.{State, Stored}
 use Rattle.memory_cells.specs.Ports.{stored}
 use Rattle.memory_cells.specs.Rows.{RowValues}
-use Rattle.signal_words.specs.Values.{numbers}
+use Rattle.sim_base.specs.Values.{numbers}
 
 -- the rows of each memory, and the values of its read ports
 unfoldable pub stored_all : List RowValues → List (List BitValue) → List Stored

@@ -1,13 +1,13 @@
 //! Lists of values, copied in place.
 ghost use Rattle.std.specs.Prelude.{◌≡◌};
-ghost use Rattle.signal_words.specs.Values.{widths};
+ghost use Rattle.sim_base.specs.Values.{widths};
 
-use circuit::Values;
+use circuit::Listing;
 use sim_base::Bits;
 use state_cells::put_value;
 
 /// Copies each value to one of the same width. It takes no memory.
-pub(crate) fn copy_values(from: &[Bits], into: &mut Values<Bits>)
+pub(crate) fn copy_values(from: &[Bits], into: &mut Listing<Bits>)
     requires { widths into.old ≡ widths from.now }
     ensures { into.new ≡ from.now }
 {

@@ -5,16 +5,16 @@ ghost use Rattle.signal_words.specs.Stores.{IsStoreOf};
 ghost use Rattle.state_cells.specs.Diagnostics.{round_of};
 ghost use Rattle.eval_commit.specs.Fired.{all_fired_after, fired_after, none_fired};
 
-use circuit::{Circuit, Diag, Store, Values};
+use circuit::{Circuit, Diag, Listing, Store};
 use sim_base::NoMemory;
 use state_cells::{fires, law_of_rounds};
 use std::alloc::Global;
 
 /// A flag for each diagnostic. None has fired before the first sample.
-pub(crate) fn start_fired(alloc: Global, circuit: &Circuit) -> Result<Values<bool>, NoMemory>
+pub(crate) fn start_fired(alloc: Global, circuit: &Circuit) -> Result<Listing<bool>, NoMemory>
     ensures { IfOk result (λ fired. fired ≡ none_fired circuit.now.diags) }
 {
-    let mut fired = Values::new(alloc);
+    let mut fired = Listing::new(alloc);
     for _diag in circuit.diags.as_slice() {
         fired.push(false)?;
     }
@@ -22,7 +22,7 @@ pub(crate) fn start_fired(alloc: Global, circuit: &Circuit) -> Result<Values<boo
 }
 
 /// Takes each flag back, at the start of a sample. It takes no memory.
-pub(crate) fn clear_fired(fired: &mut Values<bool>)
+pub(crate) fn clear_fired(fired: &mut Listing<bool>)
     ensures { fired.new ≡ map (λ _. false) fired.old }
 {
     for n in 0..fired.len() {
@@ -42,7 +42,7 @@ fn flag_after(diag: &Diag, fired: bool, fires: bool) -> bool
 
 /// Brings each flag up to a round, from the values of the nets in the round before and in this one. It takes
 /// no memory.
-pub(crate) fn next_fired(circuit: &Circuit, before: &Store, now: &Store, fired: &mut Values<bool>)
+pub(crate) fn next_fired(circuit: &Circuit, before: &Store, now: &Store, fired: &mut Listing<bool>)
     requires valid { is_valid circuit.now ≡ true }
     requires before { IsStoreOf circuit.now before.now }
     requires now { IsStoreOf circuit.now now.now }

@@ -6,7 +6,7 @@ ghost use Rattle.circuit.specs.Rounds.{Standing, start};
 ghost use Rattle.circuit.specs.Shown.{stored_row};
 ghost use Rattle.circuit.specs.declared.memory.Mem.{Mem as TheMem};
 ghost use Rattle.circuit.specs.declared.netlist.Net.{Net as TheNet};
-ghost use Rattle.signal_words.specs.Values.{numbers};
+ghost use Rattle.sim_base.specs.Values.{numbers};
 ghost use Rattle.eval_commit.specs.Fired.{none_fired};
 ghost use Rattle.eval_commit.specs.Machine.{after_sample, rounds_of_sample};
 ghost use Rattle.eval_commit.specs.Round.{AreInputsOf};
@@ -17,7 +17,7 @@ use crate::settle::Settled;
 use crate::step::Rounds;
 use circuit::Circuit;
 use eval_plan::Plan;
-use sim_base::{Bits, NoMemory, Steps};
+use sim_base::{Bits, BitsView, NoMemory, Steps};
 use std::alloc::Global;
 use std::marker::Model;
 use std::sync::Arc;
@@ -88,12 +88,12 @@ impl Machine {
 
     /// The value of a net in the last round of the last sample, or before the first sample its value under the
     /// start values and inputs that are all 0. Once a sample did not settle it is any of its width.
-    pub fn net(&self, n: u32) -> &Bits
+    pub fn net(&self, n: u32) -> BitsView<'_>
         requires { n < length self.now.circuit.nets }
-        ensures width { (x : TheNet) → slice_get self.now.circuit.nets n ≡ Some x → result.now.width ≡ x.width }
-        ensures number { (s : Standing) → self.now.standing ≡ Some s → result.now.number ≡ slice_index s.nets n }
+        ensures width { (x : TheNet) → slice_get self.now.circuit.nets n ≡ Some x → result.width ≡ x.width }
+        ensures number { (s : Standing) → self.now.standing ≡ Some s → result.number ≡ slice_index s.nets n }
     {
-        &self.rounds.before.nets.as_slice()[n as usize]
+        self.rounds.before.nets.view(n)
     }
 
     /// Writes row `i` of a memory, as it is after the last sample, into a value of a row's width. The row

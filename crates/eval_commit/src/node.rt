@@ -8,7 +8,8 @@ ghost use Rattle.driver_check.specs.Nodes.{IsNode};
 ghost use Rattle.eval_plan.specs.Roots.{AreRoots};
 ghost use Rattle.eval_plan.specs.Sources.{AreSources, cell_row, read_row};
 ghost use Rattle.signal_words.specs.Stores.{IsStoreOf};
-ghost use Rattle.signal_words.specs.Values.{digits_in, numbers, widths};
+ghost use Rattle.sim_base.specs.Values.{numbers, widths};
+ghost use Rattle.signal_words.specs.Values.{digits_in};
 ghost use Rattle.eval_commit.specs.Computed.{AreAllRows, cell_number, computed, node_row, read_number, steps_of};
 ghost use Rattle.eval_commit.specs.Spread.{IsSpread};
 
@@ -79,8 +80,8 @@ fn compute_cell<L: Ledger>(
 {
     eval_cell(circuit, n, store, steps);
     let places = plan.sources.roots_of_cell(n);
-    let from = &store.cells.as_slice()[n as usize];
-    spread(&mut store.nets, plan.roots.as_slice(), places, from);
+    let from = store.cells.view(n);
+    spread(&mut store.nets, plan.roots.as_slice(), places, &from);
 }
 
 /// Reads the row at the address of a read port into a memory's room, and writes the bits of the roots that
@@ -112,7 +113,7 @@ fn compute_read(
     let room = &mut rooms[m as usize];
     read_port(mem, n, &rows[m as usize], store, room);
     let places = plan.sources.roots_of_read(m, n);
-    spread(&mut store.nets, plan.roots.as_slice(), places, room);
+    spread(&mut store.nets, plan.roots.as_slice(), places, &room.view());
 }
 
 /// Evaluates a node, and writes the bits of the roots that take from it. It takes a step for a cell, and no

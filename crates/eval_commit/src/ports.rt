@@ -7,12 +7,13 @@ ghost use Rattle.circuit.specs.Valid.{is_valid};
 ghost use Rattle.memory_cells.specs.Ports.{IsMemoryOf, stored};
 ghost use Rattle.memory_cells.specs.Rows.{AreRowsOf};
 ghost use Rattle.signal_words.specs.Stores.{IsStoreOf};
-ghost use Rattle.signal_words.specs.Values.{digits_in, widths};
+ghost use Rattle.sim_base.specs.Values.{widths};
+ghost use Rattle.signal_words.specs.Values.{digits_in};
 ghost use Rattle.eval_commit.specs.Computed.{AreAllRows};
 ghost use Rattle.eval_commit.specs.Stored.{stored_all};
 
 use crate::copy::copy_values;
-use circuit::{Circuit, Mem, Store, Values};
+use circuit::{Circuit, Listing, Mem, Store};
 use memory_cells::{Rows, clock_ports, law_of_memories};
 use sim_base::{Bits, NoMemory};
 use std::alloc::Global;
@@ -67,10 +68,10 @@ impl Ports {
 }
 
 /// The start values of the read ports of each memory.
-pub(crate) fn start_ports(alloc: Global, circuit: &Circuit) -> Result<Values<Ports>, NoMemory>
+pub(crate) fn start_ports(alloc: Global, circuit: &Circuit) -> Result<Listing<Ports>, NoMemory>
     ensures { IfOk result (λ ports. ports ≡ map (λ m. map (λ p. p.init) m.reads) circuit.now.mems) }
 {
-    let mut ports = Values::new(alloc);
+    let mut ports = Listing::new(alloc);
     for mem in circuit.mems.as_slice() {
         ports.push(Ports::new(alloc, mem)?)?;
     }
@@ -83,8 +84,8 @@ pub(crate) fn next_mems(
     circuit: &Circuit,
     before: &Store,
     now: &Store,
-    rows: &mut Values<Rows>,
-    ports: &mut Values<Ports>,
+    rows: &mut Listing<Rows>,
+    ports: &mut Listing<Ports>,
 ) -> bool
     requires valid { is_valid circuit.now ≡ true }
     requires before { IsStoreOf circuit.now before.now }

@@ -5,13 +5,14 @@ ghost use Rattle.sim_base.specs.BitValue.{BitValue};
 ghost use Rattle.circuit.specs.Valuation.{covers};
 ghost use Rattle.circuit.specs.declared.netlist.Drive.{Drive as TheDrive};
 ghost use Rattle.driver_check.specs.Depends.{Bit};
-ghost use Rattle.signal_words.specs.Values.{digits_in, width_at, widths};
+ghost use Rattle.sim_base.specs.Values.{width_at, widths};
+ghost use Rattle.signal_words.specs.Values.{digits_in};
 ghost use Rattle.eval_plan.specs.Roots.{AreApart};
 ghost use Rattle.eval_commit.specs.Spread.{AreRootsInside, IsRootInside, IsSpread, offset_of, taken_digit};
 ghost use Rattle.eval_commit.specs.Held.{HasKept, IsSeeded, Kept, is_kept, kept_value};
 
-use circuit::{By, Drive, Values};
-use sim_base::Bits;
+use circuit::{By, Drive, Listing};
+use sim_base::{Bits, BitsView, Values};
 
 /// The first bit that is taken of what drives.
 fn offset_of(by: &By) -> u32
@@ -28,18 +29,17 @@ fn offset_of(by: &By) -> u32
 }
 
 /// Writes the bits of a root.
-fn put(nets: &mut Values<Bits>, root: &Drive, from: &Bits)
+fn put(nets: &mut Values, root: &Drive, from: &BitsView)
     requires inside { IsRootInside nets.old root.now }
     requires from_inside { offset_of root.now.by + root.now.width ≤ from.now.width }
     ensures widths { widths nets.new ≡ widths nets.old }
     ensures digits { (x : Bit) → digits_in nets.new x.0 x.1 ≡ (if covers x.0 x.1 root.now then taken_digit from.now.number root.now x else digits_in nets.old x.0 x.1) }
 {
-    let net = nets.at(root.net as usize);
-    net.copy(root.at, from, offset_of(&root.by), root.width);
+    nets.copy(root.net, root.at, from, offset_of(&root.by), root.width);
 }
 
 /// Writes the bits of the listed roots, which take from one value. It takes no memory.
-pub(crate) fn spread(nets: &mut Values<Bits>, roots: &[Drive], places: &[u32], from: &Bits)
+pub(crate) fn spread(nets: &mut Values, roots: &[Drive], places: &[u32], from: &BitsView)
     requires apart { AreApart roots.now }
     requires inside { AreRootsInside nets.old roots.now }
     requires listed { (j k : ℕ) → slice_get places.now j ≡ Some k → (r : TheDrive) × (slice_get roots.now k ≡ Some r) × (offset_of r.by + r.width ≤ from.now.width) }
@@ -54,11 +54,11 @@ pub(crate) fn spread(nets: &mut Values<Bits>, roots: &[Drive], places: &[u32], f
 
 /// Writes the bits of a root that takes a kept value.
 fn put_kept(
-    nets: &mut Values<Bits>,
+    nets: &mut Values,
     root: &Drive,
     inputs: &[Bits],
-    regs: &[Bits],
-    reads: &[Values<Bits>],
+    regs: &Values,
+    reads: &[Listing<Bits>],
 )
     requires inside { IsRootInside nets.old root.now }
     requires kept { HasKept (record { inputs = inputs.now; regs = regs.now; reads = reads.now }) root.now }
@@ -68,21 +68,25 @@ fn put_kept(
     ensures other { is_kept root.now.by ≡ false → nets.new ≡ nets.old }
 {
     match &root.by {
-        By::Const(v) => put(nets, root, v),
-        By::Input(n, _) => put(nets, root, &inputs[*n as usize]),
-        By::Reg(n, _) => put(nets, root, &regs[*n as usize]),
-        By::Read(m, n, _) => put(nets, root, &reads[*m as usize].as_slice()[*n as usize]),
+        By::Const(v) => put(nets, root, &v.view()),
+        By::Input(n, _) => put(nets, root, &inputs[*n as usize].view()),
+        By::Reg(n, _) => put(nets, root, &regs.view(*n)),
+        By::Read(m, n, _) => put(
+            nets,
+            root,
+            &reads[*m as usize].as_slice()[*n as usize].view(),
+        ),
         By::Wire(_, _) | By::Cell(_, _) => {}
     }
 }
 
 /// Writes the bits of all roots that take kept values.
 pub(crate) fn seed(
-    nets: &mut Values<Bits>,
+    nets: &mut Values,
     roots: &[Drive],
     inputs: &[Bits],
-    regs: &[Bits],
-    reads: &[Values<Bits>],
+    regs: &Values,
+    reads: &[Listing<Bits>],
 )
     requires apart { AreApart roots.now }
     requires inside { AreRootsInside nets.old roots.now }

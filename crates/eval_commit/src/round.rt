@@ -9,7 +9,8 @@ ghost use Rattle.eval_plan.specs.Ordered.{IsOrdered};
 ghost use Rattle.eval_plan.specs.Roots.{AreRoots};
 ghost use Rattle.eval_plan.specs.Sources.{AreSources};
 ghost use Rattle.signal_words.specs.Stores.{IsStoreOf};
-ghost use Rattle.signal_words.specs.Values.{digits_in, numbers, widths};
+ghost use Rattle.sim_base.specs.Values.{numbers, widths};
+ghost use Rattle.signal_words.specs.Values.{digits_in};
 ghost use Rattle.eval_commit.specs.Computed.{AreAllRows};
 ghost use Rattle.eval_commit.specs.Held.{IsSeeded};
 ghost use Rattle.eval_commit.specs.Round.{AreInputsOf, Holds, IsBlank};
@@ -31,9 +32,14 @@ fn seed_store(plan: &Plan, inputs: &[Bits], store: &mut Store)
     ensures reads { store.new.reads ≡ store.old.reads }
     ensures seeded { IsSeeded plan.now.roots (record { inputs = inputs.now; regs = store.old.regs; reads = store.old.reads }) (length plan.now.roots) store.old.nets store.new.nets }
 {
-    let regs = store.regs.as_slice();
     let reads = store.reads.as_slice();
-    seed(&mut store.nets, plan.roots.as_slice(), inputs, regs, reads);
+    seed(
+        &mut store.nets,
+        plan.roots.as_slice(),
+        inputs,
+        &store.regs,
+        reads,
+    );
 }
 
 /// Gives each net the number that it has under the state that the store and the rows hold, and under these

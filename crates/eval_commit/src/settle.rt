@@ -2,7 +2,7 @@
 ghost use Rattle.std.specs.Prelude.{◌≡◌, ℕ, ◌+◌, ◌*◌, Some, None, length, map};
 ghost use Rattle.circuit.specs.Rounds.{rounds_from, settled};
 ghost use Rattle.circuit.specs.Shown.{fires_by};
-ghost use Rattle.signal_words.specs.Values.{numbers};
+ghost use Rattle.sim_base.specs.Values.{numbers};
 ghost use Rattle.eval_commit.specs.Round.{AreInputsOf};
 ghost use Rattle.eval_plan.specs.Plans.{IsPlanOf};
 ghost use Rattle.eval_commit.specs.Rounds.{AreRoundsOf, standing_of};

@@ -7,22 +7,22 @@ ghost use Rattle.circuit.specs.Valid.{is_valid};
 ghost use Rattle.circuit.specs.declared.netlist.Circuit.{Circuit as TheCircuit};
 ghost use Rattle.circuit.specs.declared.netlist.Drive.{Drive as TheDrive};
 ghost use Rattle.memory_cells.specs.Rows.{start_rows};
-ghost use Rattle.signal_words.specs.Values.{widths};
+ghost use Rattle.sim_base.specs.Values.{widths};
 ghost use Rattle.eval_commit.specs.Computed.{AreAllRows};
 ghost use Rattle.eval_commit.specs.Round.{AreInputsOf, Holds, IsBlank, input_width};
 
-use circuit::{Circuit, Values};
+use circuit::{Circuit, Listing};
 use memory_cells::{Rows, law_of_memories};
 use sim_base::{Bits, NoMemory};
 use std::alloc::Global;
 
 /// The rows of each memory before the first sample.
-pub(crate) fn start_rows(alloc: Global, circuit: &Circuit) -> Result<Values<Rows>, NoMemory>
+pub(crate) fn start_rows(alloc: Global, circuit: &Circuit) -> Result<Listing<Rows>, NoMemory>
     requires { is_valid circuit.now ≡ true }
     ensures { IfOk result (λ rows. rows ≡ map start_rows circuit.now.mems) }
 {
     law_of_memories();
-    let mut rows = Values::new(alloc);
+    let mut rows = Listing::new(alloc);
     for mem in circuit.mems.as_slice() {
         rows.push(Rows::new(alloc, mem)?)?;
     }
@@ -52,11 +52,11 @@ fn input_width(circuit: &Circuit, net: u32) -> u32
 
 /// Inputs that are all 0, one for each of the circuit's, of the width of its net. A caller gives them other
 /// numbers and hands them to `Machine::settle`.
-pub fn zero_inputs(alloc: Global, circuit: &Circuit) -> Result<Values<Bits>, NoMemory>
+pub fn zero_inputs(alloc: Global, circuit: &Circuit) -> Result<Listing<Bits>, NoMemory>
     ensures inputs { IfOk result (λ inputs. AreInputsOf circuit.now inputs) }
     ensures zero { IfOk result (λ inputs. inputs ≡ map (λ net. zeros (input_width circuit.now net)) circuit.now.inputs) }
 {
-    let mut inputs = Values::new(alloc);
+    let mut inputs = Listing::new(alloc);
     for net in circuit.inputs.as_slice() {
         inputs.push(Bits::zero(alloc, input_width(circuit, *net))?)?;
     }

@@ -6,7 +6,7 @@ ghost use Rattle.circuit.specs.State.{same_state};
 ghost use Rattle.circuit.specs.Valid.{is_valid};
 ghost use Rattle.circuit.specs.Valuation.{valuation};
 ghost use Rattle.eval_plan.specs.declared.plan.Plan.{Plan as ThePlan};
-ghost use Rattle.signal_words.specs.Values.{numbers};
+ghost use Rattle.sim_base.specs.Values.{numbers};
 ghost use Rattle.state_cells.specs.Diagnostics.{round_of};
 ghost use Rattle.eval_commit.specs.Fired.{all_fired_after, none_fired};
 ghost use Rattle.eval_commit.specs.Round.{AreInputsOf};
@@ -15,14 +15,14 @@ ghost use Rattle.eval_commit.specs.Rounds.{AreRoundsOf, standing_of, state_of};
 
 use crate::diagnostics::{next_fired, start_fired};
 use crate::ports::{Ports, next_mems, put_reads, start_ports};
-use crate::registers::{next_regs, put_regs, start_regs};
+use crate::registers::{next_regs, put_regs};
 use crate::round::evaluate;
 use crate::start::{law_of_first_state, rooms_of, start_rows, zero_inputs};
-use circuit::{Circuit, Store, Values};
+use circuit::{Circuit, Listing, Store, start_regs};
 use eval_plan::Plan;
 use memory_cells::Rows;
 use signal_words::law_of_start;
-use sim_base::{Bits, NoMemory, Steps};
+use sim_base::{Bits, NoMemory, Steps, Values};
 use std::alloc::Global;
 use std::marker::Brand;
 use std::mem;
@@ -31,10 +31,10 @@ use std::sync::ledger::{Blank, Ledger};
 /// The state of a circuit, the values of its nets in the round before, and room for those of the next.
 #[derive(Debug, Drop)]
 pub(crate) struct Rounds {
-    pub(crate) regs: Values<Bits>,
-    pub(crate) rows: Values<Rows>,
+    pub(crate) regs: Values,
+    pub(crate) rows: Listing<Rows>,
     /// For each memory the value of each of its read ports. One without a clock keeps its start value.
-    pub(crate) ports: Values<Ports>,
+    pub(crate) ports: Listing<Ports>,
     /// Its nets are those of the last round that was done.
     pub(crate) before: Store,
     /// Room for the nets of the next round.
@@ -42,7 +42,7 @@ pub(crate) struct Rounds {
     /// For each memory room for one of its rows.
     pub(crate) rooms: Vec<Bits>,
     /// For each diagnostic whether it fired in the rounds of the last sample.
-    pub(crate) fired: Values<bool>,
+    pub(crate) fired: Listing<bool>,
 }
 
 impl Rounds {
@@ -56,7 +56,7 @@ impl Rounds {
         law_of_start();
         law_of_first_state();
         Ok(Rounds {
-            regs: start_regs(alloc, circuit)?,
+            regs: start_regs(alloc, circuit.regs.as_slice())?,
             rows: start_rows(alloc, circuit)?,
             ports: start_ports(alloc, circuit)?,
             before: Store::new(alloc, circuit)?,
@@ -124,7 +124,7 @@ impl Rounds {
         ensures nets { numbers self.new.now.nets ≡ valuation circuit.now (state_of self.old) (numbers inputs.now) }
         ensures steps { steps.new ≡ steps.old + length circuit.now.cells }
     {
-        put_regs(self.regs.as_slice(), &mut self.now);
+        put_regs(&self.regs, &mut self.now);
         put_reads(self.ports.as_slice(), &mut self.now);
         evaluate(
             circuit,

@@ -1,6 +1,6 @@
 //! Circuits from sample to sample.
 ghost use Rattle.std.specs.Prelude.{◌≡◌, IfOk};
-ghost use Rattle.signal_words.specs.Values.{widths};
+ghost use Rattle.sim_base.specs.Values.{widths};
 ghost use Rattle.eval_commit.specs.Round.{AreInputsOf};
 
 mod diagnostics;
@@ -10,14 +10,14 @@ mod registers;
 mod samples;
 mod sources;
 
-use circuit::{Circuit, Values};
+use circuit::{Circuit, Listing};
 use eval_commit::zero_inputs;
-use sim_base::{Bits, NoMemory};
+use sim_base::{Bits, BitsView, NoMemory};
 use std::alloc::Global;
 use std::test::Fail;
 
 /// The number of the lowest 64 bits.
-fn number_of(bits: &Bits) -> u64 {
+fn number_of(bits: &BitsView) -> u64 {
     let width = bits.width();
     bits.field(0, width.min(64))
 }
@@ -29,7 +29,7 @@ fn put_number(bits: &mut Bits, number: u64)
     bits.put_field(0, width.min(64), number);
 }
 
-fn set_input(inputs: &mut Values<Bits>, n: usize, number: u64)
+fn set_input(inputs: &mut Listing<Bits>, n: usize, number: u64)
     ensures { widths inputs.new ≡ widths inputs.old }
 {
     if n < inputs.len() {
@@ -38,7 +38,7 @@ fn set_input(inputs: &mut Values<Bits>, n: usize, number: u64)
 }
 
 /// Inputs with these numbers.
-fn cell_inputs(alloc: Global, circuit: &Circuit, numbers: &[u64]) -> Result<Values<Bits>, NoMemory>
+fn cell_inputs(alloc: Global, circuit: &Circuit, numbers: &[u64]) -> Result<Listing<Bits>, NoMemory>
     ensures { IfOk result (λ inputs. AreInputsOf circuit.now inputs) }
 {
     let mut inputs = zero_inputs(alloc, circuit)?;

@@ -7,3 +7,4 @@ pub mod ReadAfter
 mod SetPart
 mod Renewed
 pub mod Fitting
+mod Placed

@@ -5,7 +5,7 @@ use Rattle.std.proofs.lemmas.Nat.Bits.{bit_at_not, bit_at_and, bit_at_or, bit_at
 use Rattle.std.specs.Int.{bit_at, bit_not}
 use Rattle.circuit.specs.Signal.{gathered}
 use Rattle.circuit.proofs.Gathered.{gathered_bit, gathered_below}
-use Rattle.state_cells.proofs.Written.{field_digit}
+use Rattle.memory_cells.proofs.Placed.{field_digit}
 use Rattle.state_cells.proofs.Overlaid.{taken_digit}
 use Rattle.memory_cells.specs.Ports.{masked_digit}
 

@@ -10,7 +10,7 @@ use Rattle.circuit.specs.Rounds.{parts}
 use Rattle.circuit.specs.declared.memory.Mem.{Mem}
 use Rattle.memory_cells.specs.Rows.{AreRowsOf, RowValues}
 use Rattle.state_cells.proofs.Same.{same_value}
-use Rattle.state_cells.proofs.Written.{field_digit}
+use Rattle.memory_cells.proofs.Placed.{field_digit}
 
 pub length-parts : (width size n : ℕ) → length (parts width size n) ≡ size
 unfolding parts

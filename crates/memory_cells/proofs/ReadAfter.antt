@@ -4,7 +4,7 @@ use Rattle.std.proofs.lemmas.List.{take_more, drop_more, length-take-le, length-
 use Rattle.std.proofs.lemmas.List.{length-map, get_or-map, map-set}
 use Rattle.std.proofs.Math.Seq.{map-set_same}
 use Rattle.sim_base.specs.BitValue.{BitValue, bit_value}
-use Rattle.signal_words.specs.Values.{numbers, widths}
+use Rattle.sim_base.specs.Values.{numbers, widths}
 use Rattle.circuit.specs.Signal.{Digits}
 use Rattle.circuit.specs.Next.{next_read, next_reads}
 use Rattle.circuit.specs.declared.memory.Mem.{Mem}

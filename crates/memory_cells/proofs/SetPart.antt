@@ -10,7 +10,7 @@ use Rattle.sim_base.specs.BitValue.{digit_after_copy}
 use Rattle.sim_base.proofs.Words.{copied_in, copied_below, copied_above}
 use Rattle.signal_words.proofs.Numbers.{field_of_field}
 use Rattle.circuit.specs.Rounds.{parts}
-use Rattle.state_cells.proofs.Written.{field_digit}
+use Rattle.memory_cells.proofs.Placed.{field_digit}
 use Rattle.memory_cells.proofs.Parts.{length-parts, part_at}
 
 -- a digit of another row stays

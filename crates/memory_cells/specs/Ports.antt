@@ -9,7 +9,8 @@ use Rattle.circuit.specs.Valid.{widest}
 use Rattle.circuit.specs.declared.memory.Mem.{Mem}
 use Rattle.circuit.specs.declared.memory.ReadPort.{ReadPort}
 use Rattle.circuit.specs.declared.memory.WritePort.{WritePort}
-use Rattle.signal_words.specs.Values.{AreInside, numbers}
+use Rattle.sim_base.specs.Values.{numbers}
+use Rattle.signal_words.specs.Values.{AreInside}
 use Rattle.memory_cells.specs.Rows.{RowValues}
 
 -- the signals lie inside the nets, the clock in both rounds, and have their widths

@@ -7,10 +7,10 @@ ghost use Rattle.memory_cells.specs.Ports.{place_of};
 
 use circuit::{Mem, Piece};
 use signal_words::{SigReader, sig_width, sig_word};
-use sim_base::Bits;
+use sim_base::Values;
 
 /// The place of the row that an address names, or none where it is outside the memory.
-pub(crate) fn place_of(mem: &Mem, addr: &[Piece], nets: &[Bits]) -> Option<u32>
+pub(crate) fn place_of(mem: &Mem, addr: &[Piece], nets: &Values) -> Option<u32>
     requires inside { AreInside nets.now addr.now }
     requires small { sig_width addr.now ≤ widest }
     ensures { result ≡ place_of mem.now (sig_number (digits_in nets.now) addr.now) }
@@ -38,7 +38,7 @@ fn place_from(address: u64, offset: u32, size: u32) -> Option<u32>
 }
 
 /// The number of a signal, where it is below 2^64.
-fn small_number(sig: &[Piece], nets: &[Bits]) -> Option<u64>
+fn small_number(sig: &[Piece], nets: &Values) -> Option<u64>
     requires inside { AreInside nets.now sig.now }
     requires small { sig_width sig.now ≤ widest }
     ensures { result ≡ (if nat_lt (sig_number (digits_in nets.now) sig.now) (2 ^ 64) then Some (sig_number (digits_in nets.now) sig.now) else None) }

@@ -5,7 +5,8 @@ ghost use Rattle.circuit.specs.Next.{next_stored};
 ghost use Rattle.circuit.specs.Signal.{sig_number};
 ghost use Rattle.circuit.specs.State.{addressed_row, same_stored};
 ghost use Rattle.circuit.specs.declared.memory.ReadPort.{ReadPort};
-ghost use Rattle.signal_words.specs.Values.{digits_in, widths};
+ghost use Rattle.sim_base.specs.Values.{widths};
+ghost use Rattle.signal_words.specs.Values.{digits_in};
 ghost use Rattle.memory_cells.specs.Ports.{IsMemoryOf, stored};
 ghost use Rattle.memory_cells.specs.Rows.{AreRowsOf};
 
@@ -26,7 +27,7 @@ pub fn read_port(mem: &Mem, port: u32, rows: &Rows, now: &Store, into: &mut Bits
     ensures { (p : ReadPort) → slice_get mem.now.reads port ≡ Some p → into.new ≡ bit_value mem.now.width (addressed_row mem.now rows.now.rows (sig_number (digits_in now.now.nets) p.addr)) }
 {
     let port = &mem.reads.as_slice()[port as usize];
-    match place_of(mem, port.addr.as_slice(), now.nets.as_slice()) {
+    match place_of(mem, port.addr.as_slice(), &now.nets) {
         Some(place) => rows.row(place, into),
         None => into.clear(),
     }
@@ -51,7 +52,7 @@ pub fn clock_ports(
     ensures stored { stored rows.new outs.new ≡ next_stored (digits_in before.now.nets) (digits_in now.now.nets) mem.now (stored rows.old outs.old) }
     ensures changed { result ≡ not (same_stored (stored rows.new outs.new) (stored rows.old outs.old)) }
 {
-    let (before, now) = (before.nets.as_slice(), now.nets.as_slice());
+    let (before, now) = (&before.nets, &now.nets);
     let read = clock_reads(mem, &rows.rows, &mut rows.row, before, now, outs);
     let written = clock_writes(mem, &mut rows.rows, &mut rows.row, before, now);
     read | written

@@ -6,7 +6,7 @@ ghost use Rattle.circuit.specs.declared.memory.Mem.{Mem};
 ghost use Rattle.circuit.specs.declared.netlist.Circuit.{Circuit};
 ghost use Rattle.circuit.specs.declared.store.Store.{Store};
 ghost use Rattle.signal_words.specs.Stores.{IsStoreOf};
-ghost use Rattle.signal_words.specs.Values.{widths};
+ghost use Rattle.sim_base.specs.Values.{widths};
 ghost use Rattle.memory_cells.specs.Ports.{IsMemoryOf};
 ghost use Rattle.memory_cells.specs.Rows.{AreRowsOf, start_rows};
 

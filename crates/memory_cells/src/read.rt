@@ -5,14 +5,15 @@ ghost use Rattle.sim_base.specs.BitValue.{bit_value};
 ghost use Rattle.circuit.specs.Next.{has_edge, is_active, next_read, next_reads, transparent_read};
 ghost use Rattle.circuit.specs.Rounds.{parts};
 ghost use Rattle.circuit.specs.Signal.{sig_width};
-ghost use Rattle.signal_words.specs.Values.{AreInside, digits_in, numbers, widths};
+ghost use Rattle.sim_base.specs.Values.{numbers, widths};
+ghost use Rattle.signal_words.specs.Values.{AreInside, digits_in};
 ghost use Rattle.memory_cells.specs.Ports.{IsMemoryOf, IsReadPortOf};
 
 use crate::address::place_of;
 use crate::rows::read_place;
 use crate::write::write_marked;
 use circuit::{Mem, ReadPort};
-use sim_base::Bits;
+use sim_base::{Bits, Values};
 use state_cells::{has_edge, is_active, put_value};
 
 /// Does the reads of one round.
@@ -20,8 +21,8 @@ pub(crate) fn clock_reads(
     mem: &Mem,
     rows: &Bits,
     row: &mut Bits,
-    before: &[Bits],
-    now: &[Bits],
+    before: &Values,
+    now: &Values,
     outs: &mut [Bits],
 ) -> bool
     requires fits { IsMemoryOf before.now now.now mem.now }
@@ -46,8 +47,8 @@ fn clock_read(
     port: &ReadPort,
     rows: &Bits,
     row: &mut Bits,
-    before: &[Bits],
-    now: &[Bits],
+    before: &Values,
+    now: &Values,
     out: &mut Bits,
 ) -> bool
     requires fits { IsMemoryOf before.now now.now mem.now }
@@ -67,7 +68,7 @@ fn clock_read(
 }
 
 /// Whether a port reads in this round.
-fn reads(port: &ReadPort, before: &[Bits], now: &[Bits]) -> bool
+fn reads(port: &ReadPort, before: &Values, now: &Values) -> bool
     requires clk_before { AreInside before.now port.now.clk }
     requires clk { AreInside now.now port.now.clk }
     requires en { AreInside now.now port.now.en }
@@ -81,7 +82,7 @@ fn reads(port: &ReadPort, before: &[Bits], now: &[Bits]) -> bool
 }
 
 /// Makes the row that a port reads: that of its address, with what the ports that it sees write to it.
-fn take_row(mem: &Mem, port: &ReadPort, rows: &Bits, row: &mut Bits, before: &[Bits], now: &[Bits])
+fn take_row(mem: &Mem, port: &ReadPort, rows: &Bits, row: &mut Bits, before: &Values, now: &Values)
     requires fits { IsMemoryOf before.now now.now mem.now }
     requires port { IsReadPortOf before.now now.now mem.now port.now }
     requires rows { rows.now.width ≡ mem.now.size * mem.now.width }

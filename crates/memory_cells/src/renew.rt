@@ -11,7 +11,7 @@ use crate::address::place_of;
 use crate::rows::read_place;
 use crate::write::write_all;
 use circuit::{Mem, WritePort};
-use sim_base::Bits;
+use sim_base::{Bits, Values};
 use state_cells::has_edge;
 
 /// Does the writes of one round.
@@ -19,8 +19,8 @@ pub(crate) fn clock_writes(
     mem: &Mem,
     rows: &mut Bits,
     row: &mut Bits,
-    before: &[Bits],
-    now: &[Bits],
+    before: &Values,
+    now: &Values,
 ) -> bool
     requires fits { IsMemoryOf before.now now.now mem.now }
     requires rows { rows.old.width ≡ mem.now.size * mem.now.width }
@@ -39,7 +39,7 @@ pub(crate) fn clock_writes(
 }
 
 /// The place of the row to which a port writes in this round.
-fn place_written(mem: &Mem, port: &WritePort, before: &[Bits], now: &[Bits]) -> Option<u32>
+fn place_written(mem: &Mem, port: &WritePort, before: &Values, now: &Values) -> Option<u32>
     requires { IsWritePortOf before.now now.now mem.now port.now }
     ensures { result ≡ place_written (digits_in before.now) (digits_in now.now) mem.now port.now }
 {
@@ -56,8 +56,8 @@ fn renew_where(
     place: Option<u32>,
     rows: &mut Bits,
     row: &mut Bits,
-    before: &[Bits],
-    now: &[Bits],
+    before: &Values,
+    now: &Values,
 ) -> bool
     requires fits { IsMemoryOf before.now now.now mem.now }
     requires there { ForSome place (λ i. i < mem.now.size) }
@@ -80,8 +80,8 @@ fn renew(
     place: u32,
     rows: &mut Bits,
     row: &mut Bits,
-    before: &[Bits],
-    now: &[Bits],
+    before: &Values,
+    now: &Values,
 ) -> bool
     requires fits { IsMemoryOf before.now now.now mem.now }
     requires there { place < mem.now.size }

@@ -11,11 +11,11 @@ ghost use Rattle.memory_cells.specs.Ports.{is_place, IsWritePortOf, masked_digit
 use crate::address::place_of;
 use circuit::{Mem, WritePort};
 use signal_words::SigReader;
-use sim_base::Bits;
+use sim_base::{Bits, Values};
 use state_cells::has_edge;
 
 /// Writes into the row at a place what all ports write to it in this round, the highest port last.
-pub(crate) fn write_all(mem: &Mem, place: u32, before: &[Bits], now: &[Bits], row: &mut Bits)
+pub(crate) fn write_all(mem: &Mem, place: u32, before: &Values, now: &Values, row: &mut Bits)
     requires small { mem.now.width ≤ widest }
     requires ports { All (IsWritePortOf before.now now.now mem.now) mem.now.writes }
     requires there { place < mem.now.size }
@@ -34,8 +34,8 @@ pub(crate) fn write_marked(
     mem: &Mem,
     marks: &[bool],
     place: u32,
-    before: &[Bits],
-    now: &[Bits],
+    before: &Values,
+    now: &Values,
     row: &mut Bits,
 )
     requires small { mem.now.width ≤ widest }
@@ -53,7 +53,7 @@ pub(crate) fn write_marked(
 }
 
 /// Writes the bits at which a port is enabled, where it is marked and writes to this row.
-fn write_where(marked: bool, written: bool, port: &WritePort, now: &[Bits], row: &mut Bits)
+fn write_where(marked: bool, written: bool, port: &WritePort, now: &Values, row: &mut Bits)
     requires en { AreInside now.now port.now.en }
     requires word { AreInside now.now port.now.word }
     requires en_small { sig_width port.now.en ≤ widest }
@@ -66,7 +66,7 @@ fn write_where(marked: bool, written: bool, port: &WritePort, now: &[Bits], row:
 }
 
 /// Whether a port writes to the row at a place.
-fn is_written(mem: &Mem, port: &WritePort, place: u32, before: &[Bits], now: &[Bits]) -> bool
+fn is_written(mem: &Mem, port: &WritePort, place: u32, before: &Values, now: &Values) -> bool
     requires port { IsWritePortOf before.now now.now mem.now port.now }
     requires there { place < mem.now.size }
     ensures { result ≡ (has_edge port.now.rising (digits_in before.now) (digits_in now.now) port.now.clk && (sig_number (digits_in now.now) port.now.addr == place + mem.now.offset)) }
@@ -86,7 +86,7 @@ fn is_place(found: Option<u32>, place: u32) -> bool
 }
 
 /// Writes the bits at which a port is enabled.
-fn write_enabled(port: &WritePort, now: &[Bits], row: &mut Bits)
+fn write_enabled(port: &WritePort, now: &Values, row: &mut Bits)
     requires en { AreInside now.now port.now.en }
     requires word { AreInside now.now port.now.word }
     requires en_small { sig_width port.now.en ≤ widest }

@@ -18,7 +18,8 @@ use Rattle.circuit.specs.declared.memory.Mem.{Mem}
 use Rattle.circuit.specs.declared.memory.ReadPort.{ReadPort}
 use Rattle.circuit.specs.declared.diagnostic.Diag.{Diag}
 use Rattle.circuit.specs.declared.store.Store.{Store}
-use Rattle.signal_words.specs.Values.{widths, IsInside, AreInside, IsSignalOf}
+use Rattle.sim_base.specs.Values.{widths}
+use Rattle.signal_words.specs.Values.{IsInside, AreInside, IsSignalOf}
 use Rattle.signal_words.specs.Stores.{IsStoreOf, IsCellOf}
 use Rattle.signal_words.proofs.Told.{eq_from, le_from}
 

@@ -8,7 +8,8 @@ use Rattle.sim_base.specs.BitValue.{BitValue, bit_value}
 use Rattle.circuit.specs.Signal.{Digits, piece_number, piece_width, sig_number, sig_width}
 use Rattle.circuit.specs.declared.netlist.Piece.{Piece}
 use Rattle.circuit.specs.declared.netlist.Piece.TheVariants as piece
-use Rattle.signal_words.specs.Values.{digits_in, numbers, width_at, first_width, IsInside, AreInside, IsPlace}
+use Rattle.sim_base.specs.Values.{number_at, numbers, width_at}
+use Rattle.signal_words.specs.Values.{digits_in, first_width, IsInside, AreInside, IsPlace}
 use Rattle.signal_words.proofs.Numbers.{field_gathered, shifted_below, low_field, high_part, whole_field}
 
 -- ---- one piece
@@ -17,11 +18,11 @@ pub same_value : (w v m n : ℕ) → w ≡ v → m ≡ n → bit_value w m ≡ b
 same_value w v m n a b = cc (a, b)
 
 -- the value of a net that is read
-pub number_read : (values : List BitValue) (n : ℕ) (v : BitValue) → n < length values → v ≡ get_or values n v → get_or (numbers values) n 0 ≡ v.number
-number_read values n v lt e = get_or-map (λ (x : BitValue). x.number) values n v 0 lt ∙ ap (λ (x : BitValue). x.number) (sym e)
+pub number_read : (values : List BitValue) (n : ℕ) (v : BitValue) → v ≡ bit_value (width_at values n) (number_at values n) → number_at values n ≡ v.number
+number_read values n v e = ap (λ (x : BitValue). x.number) (sym e)
 
-pub width_read : (values : List BitValue) (n : ℕ) (v : BitValue) → n < length values → v ≡ get_or values n v → width_at values n ≡ v.width
-width_read values n v lt e = get_or-map (λ (x : BitValue). x.width) values n v 0 lt ∙ ap (λ (x : BitValue). x.width) (sym e)
+pub width_read : (values : List BitValue) (n : ℕ) (v : BitValue) → v ≡ bit_value (width_at values n) (number_at values n) → width_at values n ≡ v.width
+width_read values n v e = ap (λ (x : BitValue). x.width) (sym e)
 
 -- a part is a field of its net's number
 pub part_field : (values : List BitValue) (net at w : ℕ) → piece_number (digits_in values) (piece.Part net at w) ≡ get_or (numbers values) net 0 / 2 ^ at % 2 ^ w
@@ -32,12 +33,12 @@ part_below values net at w =
     subst (λ n. n < 2 ^ w) (sym (part_field values net at w)) (mod_below (get_or (numbers values) net 0 / 2 ^ at) (2 ^ w) (pow_pos w))
 
 -- a part as wide as its net is the net's value
-pub whole_net : (values : List BitValue) (net at w : ℕ) (v : BitValue) → IsInside values (piece.Part net at w) → v ≡ get_or values net v → w ≡ v.width → v.number < 2 ^ w
+pub whole_net : (values : List BitValue) (net at w : ℕ) (v : BitValue) → IsInside values (piece.Part net at w) → v ≡ bit_value (width_at values net) (number_at values net) → w ≡ v.width → v.number < 2 ^ w
     → v ≡ bit_value w (piece_number (digits_in values) (piece.Part net at w))
 whole_net values net at w v h e same lt =
-    let none : at ≡ 0 = omega (arith, h.1, width_read values net v h.0 e, same) in
+    let none : at ≡ 0 = omega (arith, h.1, width_read values net v e, same) in
     let n : piece_number (digits_in values) (piece.Part net at w) ≡ v.number =
-    part_field values net at w ∙ ap (λ x. x / 2 ^ at % 2 ^ w) (number_read values net v h.0 e) ∙ ap (λ k. v.number / 2 ^ k % 2 ^ w) none ∙ whole_field v.number w lt in
+    part_field values net at w ∙ ap (λ x. x / 2 ^ at % 2 ^ w) (number_read values net v e) ∙ ap (λ k. v.number / 2 ^ k % 2 ^ w) none ∙ whole_field v.number w lt in
     same_value v.width w v.number (piece_number (digits_in values) (piece.Part net at w)) (sym same) (sym n)
 
 -- ---- a signal's first pieces

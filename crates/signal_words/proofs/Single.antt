@@ -1,13 +1,12 @@
 -- Signals of one piece, or of none.
-use Rattle.std.proofs.Common.{◌≡◌, ℕ, ◌<◌, ◌≤◌, ◌^◌, List, [], ◌∷◌, length, get_or, refl, ◌∙◌, ap, arith, lit<, Option, Some, None}
+use Rattle.std.proofs.Common.{◌≡◌, ℕ, ◌<◌, ◌≤◌, ◌^◌, List, [], ◌∷◌, length, get_or, refl, sym, ◌∙◌, ap, subst, arith, lit<, Option, Some, None}
 use Rattle.std.proofs.Math.Nat.{pow-le-pow_right}
-use Rattle.std.specs.Borrow.{Bor}
 use Rattle.std.specs.Prelude.{IfSome, slice_index_or}
 use Rattle.sim_base.specs.BitValue.{BitValue, bit_value, number_of_words}
 use Rattle.circuit.specs.Signal.{Digits, piece_number, piece_width, sig_number, sig_value, sig_width}
 use Rattle.circuit.specs.declared.netlist.Piece.{Piece}
 use Rattle.signal_words.specs.Values.{digits_in, IsWordOf}
-use Rattle.signal_words.specs.declared.word.SigWord.{SigWord}
+use Rattle.signal_words.specs.declared.values.SigWord.{SigWord}
 
 pub one_number : (d : Digits) (ps : List Piece) (p : Piece) → 1 ≤ length ps → length ps < 2 → p ≡ get_or ps 0 p → piece_number d p ≡ sig_number d ps
 unfolding sig_number
@@ -37,23 +36,17 @@ one_word_is values ps p (Some w) some few e small width number below = record {
 }
 
 -- the value that the only piece is
-pub one_value_is : (values : List BitValue) (ps : List Piece) (p : Piece) (value : Option (Bor BitValue)) → 1 ≤ length ps → length ps < 2 → p ≡ get_or ps 0 p
-    → IfSome value (λ v. v.now ≡ bit_value (piece_width p) (piece_number (digits_in values) p)) → IfSome value (λ v. v.now ≡ sig_value (digits_in values) ps)
+pub one_value_is : (values : List BitValue) (ps : List Piece) (p : Piece) (value : Option BitValue) → 1 ≤ length ps → length ps < 2 → p ≡ get_or ps 0 p
+    → IfSome value (λ v. v ≡ bit_value (piece_width p) (piece_number (digits_in values) p)) → IfSome value (λ v. v ≡ sig_value (digits_in values) ps)
 one_value_is values ps p None some few e is = tt
 one_value_is values ps p (Some v) some few e is =
     is ∙ ap (λ w. bit_value w (piece_number (digits_in values) p)) (one_width ps p some few e) ∙ ap (bit_value (sig_width ps)) (one_number (digits_in values) ps p some few e)
 
--- the number of one word
-pub only_word : (ws : List ℕ) → 1 ≤ length ws → length ws < 2 → slice_index_or ws 0 0 ≡ number_of_words ws
-unfolding number_of_words
-only_word [] some few = absurd (omega arith)
-only_word (w ∷ []) some few = omega arith
-only_word (w ∷ v ∷ ws) some few = absurd (omega arith)
-
--- the only word of a value that has one
-pub only_word_is : (ws : List ℕ) (number width : ℕ) → number_of_words ws ≡ number → number < 2 ^ width → width ≤ 64 → slice_index_or ws 0 0 ≡ number
-unfolding number_of_words
-only_word_is [] number width is lt le = is
-only_word_is (w ∷ ws) number width is lt le =
-    let p : 2 ^ width ≤ 2 ^ 64 = pow-le-pow_right {n = 2} (lit< tt) {i = width} {j = 64} le in
-    omega (arith, is, lt, p)
+-- the word of a value that has one
+pub word_is : (values : List BitValue) (ps : List Piece) (v : BitValue) (width number : ℕ) → v ≡ sig_value (digits_in values) ps → width ≡ v.width → number ≡ v.number → v.width ≤ 64 → v.number < 2 ^ v.width → IsWordOf values ps width number
+word_is values ps v width number e w n small below = record {
+  small = omega (arith, w, small);
+  width_is = w ∙ ap (λ (x : BitValue). x.width) e;
+  number_is = n ∙ ap (λ (x : BitValue). x.number) e;
+  below = subst (λ k. number < 2 ^ k) (sym w) (subst (λ k. k < 2 ^ v.width) (sym n) below);
+}

@@ -4,7 +4,8 @@ use Rattle.circuit.specs.Valid.{widest, widths_fit, widths_of}
 use Rattle.circuit.specs.declared.netlist.Circuit.{Circuit}
 use Rattle.circuit.specs.declared.cell.Cell.{Cell}
 use Rattle.circuit.specs.declared.store.Store.{Store}
-use Rattle.signal_words.specs.Values.{widths, width_at, IsSignalOf}
+use Rattle.sim_base.specs.Values.{width_at, widths}
+use Rattle.signal_words.specs.Values.{IsSignalOf}
 
 -- each value has the width of what it is the value of
 pub record IsStoreOf (c : Circuit) (store : Store) : Type 0 where

@@ -5,7 +5,7 @@ ghost use Rattle.circuit.specs.Signal.{piece_number, piece_width};
 ghost use Rattle.signal_words.specs.Values.{digits_in, IsInside};
 
 use circuit::Piece;
-use sim_base::Bits;
+use sim_base::{BitsView, Values};
 
 /// How many bits a piece has.
 #[inline]
@@ -22,7 +22,7 @@ pub fn piece_width(piece: &Piece) -> u32
 
 /// The number of `n` bits of a piece from its bit `at` on.
 #[inline]
-pub fn piece_field(piece: &Piece, nets: &[Bits], at: u32, n: u32) -> u64
+pub fn piece_field(piece: &Piece, nets: &Values, at: u32, n: u32) -> u64
     requires inside { IsInside nets.now piece.now }
     requires small { n ≤ 64 }
     requires within { at + n ≤ piece_width piece.now }
@@ -31,7 +31,7 @@ pub fn piece_field(piece: &Piece, nets: &[Bits], at: u32, n: u32) -> u64
     match piece {
         Piece::Const(value) => value.field(at, n),
         Piece::Part { net, at: first, .. } => {
-            let value = &nets[*net as usize];
+            let value = nets.view(*net);
             let _ = value.width();
             value.field(*first + at, n)
         }
@@ -40,7 +40,7 @@ pub fn piece_field(piece: &Piece, nets: &[Bits], at: u32, n: u32) -> u64
 
 /// The number of a part of a value. Most parts are the whole value, and those need no shift.
 #[inline(always)]
-fn part_word(value: &Bits, at: u32, width: u32) -> u64
+fn part_word(value: &BitsView, at: u32, width: u32) -> u64
     requires small { width ≤ 64 }
     requires inside { at + width ≤ value.now.width }
     ensures value { result ≡ value.now.number / 2 ^ at % 2 ^ width }
@@ -55,7 +55,7 @@ fn part_word(value: &Bits, at: u32, width: u32) -> u64
 
 /// The number of a piece.
 #[inline(always)]
-pub fn piece_word(piece: &Piece, nets: &[Bits]) -> u64
+pub fn piece_word(piece: &Piece, nets: &Values) -> u64
     requires inside { IsInside nets.now piece.now }
     requires small { piece_width piece.now ≤ 64 }
     ensures value { result ≡ piece_number (digits_in nets.now) piece.now }
@@ -66,20 +66,20 @@ pub fn piece_word(piece: &Piece, nets: &[Bits]) -> u64
             let _ = value.width();
             value.word()
         }
-        Piece::Part { net, at, width } => part_word(&nets[*net as usize], *at, *width),
+        Piece::Part { net, at, width } => part_word(&nets.view(*net), *at, *width),
     }
 }
 
 /// The value that a piece is: a constant, or a net that the piece is the whole of.
 #[inline(always)]
-pub fn piece_value<'a>(piece: &'a Piece, nets: &'a [Bits]) -> Option<&'a Bits>
+pub fn piece_value<'a>(piece: &'a Piece, nets: &'a Values) -> Option<BitsView<'a>>
     requires { IsInside nets.now piece.now }
-    ensures { IfSome result (λ value. value.now ≡ bit_value (piece_width piece.now) (piece_number (digits_in nets.now) piece.now)) }
+    ensures { IfSome result (λ value. value ≡ bit_value (piece_width piece.now) (piece_number (digits_in nets.now) piece.now)) }
 {
     match piece {
-        Piece::Const(value) => Some(value),
+        Piece::Const(value) => Some(value.view()),
         Piece::Part { net, width, .. } => {
-            let value = &nets[*net as usize];
+            let value = nets.view(*net);
             if *width == value.width() {
                 return Some(value);
             }

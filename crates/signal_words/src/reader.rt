@@ -6,14 +6,14 @@ ghost use Rattle.signal_words.specs.Values.{digits_in, AreInside};
 
 use crate::piece::{piece_field, piece_width};
 use circuit::Piece;
-use sim_base::Bits;
+use sim_base::Values;
 use std::marker::Model;
 
 /// A signal that is read from its least bit on, seen as the value of the bits that are left. To read
 /// it to its end takes a time that grows with its pieces and words alone.
 #[derive(Drop)]
 pub struct SigReader<'a> {
-    nets: &'a [Bits],
+    nets: &'a Values,
     pieces: &'a [Piece],
     /// How many bits of the first piece are read.
     at: u32,
@@ -34,7 +34,7 @@ impl<'a> Model for SigReader<'a> {
 
 impl<'a> SigReader<'a> {
     /// A signal of which nothing is read.
-    pub fn new(sig: &'a [Piece], nets: &'a [Bits]) -> SigReader<'a>
+    pub fn new(sig: &'a [Piece], nets: &'a Values) -> SigReader<'a>
         requires inside { AreInside nets.now sig.now }
         requires fits { sig_width sig.now < 2 ^ 32 }
         ensures { result ≡ sig_value (digits_in nets.now) sig.now }

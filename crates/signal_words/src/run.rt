@@ -5,14 +5,14 @@ ghost use Rattle.circuit.specs.Signal.{piece_number, piece_width, sig_value};
 ghost use Rattle.signal_words.specs.Values.{digits_in, AreInside, IsInside};
 
 use circuit::Piece;
-use sim_base::Bits;
+use sim_base::{BitsView, Values};
 use std::marker::Model;
 
 /// A piece that is read from its least bit on, seen as the value of the bits that are left. It is looked up
 /// once, so that to read a word takes no more than that word's place.
 #[derive(Drop)]
 pub struct PieceReader<'a> {
-    value: &'a Bits,
+    value: BitsView<'a>,
     /// The first bit of the value that is not read.
     at: u32,
     /// How many bits are left.
@@ -25,26 +25,26 @@ impl<'a> Model for PieceReader<'a> {
 
     ghost Value = { BitValue };
 
-    ghost view = { λ r. bit_value r.left (r.value.now.number / 2 ^ r.at % 2 ^ r.left) };
+    ghost view = { λ r. bit_value r.left (r.value.number / 2 ^ r.at % 2 ^ r.left) };
 
-    ghost invariant = { λ r. r.at + r.left ≤ r.value.now.width };
+    ghost invariant = { λ r. r.at + r.left ≤ r.value.width };
 }
 
 impl<'a> PieceReader<'a> {
     /// A piece of which nothing is read.
-    fn new(piece: &'a Piece, nets: &'a [Bits]) -> PieceReader<'a>
+    fn new(piece: &'a Piece, nets: &'a Values) -> PieceReader<'a>
         requires { IsInside nets.now piece.now }
         ensures value { result ≡ bit_value (piece_width piece.now) (piece_number (digits_in nets.now) piece.now) }
         ensures below { result.number < 2 ^ result.width }
     {
         match piece {
             Piece::Const(value) => PieceReader {
-                value,
+                value: value.view(),
                 at: 0,
                 left: value.width(),
             },
             Piece::Part { net, at, width } => PieceReader {
-                value: &nets[*net as usize],
+                value: nets.view(*net),
                 at: *at,
                 left: *width,
             },
@@ -90,7 +90,7 @@ impl<'a> PieceReader<'a> {
 }
 
 /// A signal that is one piece, to be read, or none.
-pub fn one_piece<'a>(sig: &'a [Piece], nets: &'a [Bits]) -> Option<PieceReader<'a>>
+pub fn one_piece<'a>(sig: &'a [Piece], nets: &'a Values) -> Option<PieceReader<'a>>
     requires { AreInside nets.now sig.now }
     ensures value { IfSome result (λ reader. reader ≡ sig_value (digits_in nets.now) sig.now) }
     ensures below { IfSome result (λ reader. reader.number < 2 ^ reader.width) }

@@ -8,7 +8,7 @@ ghost use Rattle.signal_words.specs.Values.{digits_in, AreInside};
 use crate::piece::{piece_field, piece_width, piece_word};
 use crate::reader::SigReader;
 use circuit::Piece;
-use sim_base::Bits;
+use sim_base::Values;
 
 /// The width of a signal in bits. What the nets hold, the number of the signal is below 2 to it.
 #[inline]
@@ -26,7 +26,7 @@ pub fn sig_width(sig: &[Piece]) -> u32
 
 /// The number of a signal of at most 64 bits.
 #[inline]
-pub fn sig_word(sig: &[Piece], nets: &[Bits]) -> u64
+pub fn sig_word(sig: &[Piece], nets: &Values) -> u64
     requires inside { AreInside nets.now sig.now }
     requires small { sig_width sig.now ≤ 64 }
     ensures value { result ≡ sig_number (digits_in nets.now) sig.now }
@@ -47,7 +47,7 @@ pub fn sig_word(sig: &[Piece], nets: &[Bits]) -> u64
 
 /// The number of `n` bits of a signal of any pieces. It stands apart so that `sig_field` stays small.
 #[inline(never)]
-fn field_of_pieces(sig: &[Piece], nets: &[Bits], at: u32, n: u32) -> u64
+fn field_of_pieces(sig: &[Piece], nets: &Values, at: u32, n: u32) -> u64
     requires inside { AreInside nets.now sig.now }
     requires fits { sig_width sig.now < 2 ^ 32 }
     requires small { n ≤ 64 }
@@ -60,7 +60,7 @@ fn field_of_pieces(sig: &[Piece], nets: &[Bits], at: u32, n: u32) -> u64
 
 /// The number of `n` bits, at most 64, of a signal from its bit `at` on.
 #[inline]
-pub fn sig_field(sig: &[Piece], nets: &[Bits], at: u32, n: u32) -> u64
+pub fn sig_field(sig: &[Piece], nets: &Values, at: u32, n: u32) -> u64
     requires inside { AreInside nets.now sig.now }
     requires fits { sig_width sig.now < 2 ^ 32 }
     requires small { n ≤ 64 }
@@ -76,7 +76,7 @@ pub fn sig_field(sig: &[Piece], nets: &[Bits], at: u32, n: u32) -> u64
 }
 
 /// Whether bit `i` of a signal is 1.
-pub fn sig_bit(sig: &[Piece], nets: &[Bits], i: u32) -> bool
+pub fn sig_bit(sig: &[Piece], nets: &Values, i: u32) -> bool
     requires inside { AreInside nets.now sig.now }
     requires fits { sig_width sig.now < 2 ^ 32 }
     ensures { digit_of result ≡ bit_at (sig_number (digits_in nets.now) sig.now) i }

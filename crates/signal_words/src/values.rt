@@ -1,8 +1,18 @@
-//! Values of at most 64 bits, read and written as words.
-ghost use Rattle.std.specs.Prelude.{◌≡◌, ◌-◌, ◌<◌, ◌≤◌, ◌^◌};
-ghost use Rattle.signal_words.specs.Written.{IsWritten};
+//! Words of values of 1 to 64 bits.
+ghost use Rattle.std.specs.Prelude.{◌≡◌, ◌↔◌, List, ◌-◌, ◌<◌, ◌≤◌, ◌^◌, IsTrue};
+ghost use Rattle.sim_base.specs.BitValue.{BitValue};
+ghost use Rattle.circuit.specs.Signal.{sig_value};
+ghost use Rattle.circuit.specs.declared.netlist.Piece.{Piece};
+ghost use Rattle.signal_words.specs.Values.{digits_in, IsWordOf};
 
-use sim_base::Bits;
+use sim_base::BitsView;
+
+/// The width of a signal in bits, at most 64, and its number.
+#[derive(Clone, Copy, Debug)]
+pub struct SigWord {
+    pub width: u32,
+    pub number: u64,
+}
 
 /// The word with `n` digits that are all 1.
 #[inline(always)]
@@ -13,43 +23,26 @@ pub fn ones_word(n: u32) -> u64
     if n == 64 { u64::MAX } else { (1u64 << n) - 1 }
 }
 
-/// The number of a value of 1 to 64 bits. It has one word, which is read without a test.
+/// Whether a value of this width has one word.
 #[inline(always)]
-pub fn only_word(value: &Bits) -> u64
+pub fn is_one_word(width: u32) -> bool
+    ensures { IsTrue result ↔ ((0 < width) × (width ≤ 64)) }
+{
+    width > 0 && width <= 64
+}
+
+/// The word that a value of 1 to 64 bits is.
+#[inline(always)]
+pub fn word_of_value(value: &BitsView) -> SigWord
     requires some { 0 < value.now.width }
     requires small { value.now.width ≤ 64 }
-    ensures value { result ≡ value.now.number }
-    ensures below { result < 2 ^ value.now.width }
+    ensures word { (nets : List BitValue) (sig : List Piece) → value.now ≡ sig_value (digits_in nets) sig → IsWordOf nets sig result.width result.number }
+    ensures width { result.width ≡ value.now.width }
+    ensures number { result.number ≡ value.now.number }
+    ensures below { result.number < 2 ^ result.width }
 {
-    let _ = value.width();
-    value.words()[0]
-}
-
-/// Makes a word the number of a value of 1 to 64 bits, and tells whether that changed it.
-#[inline(always)]
-pub fn put_only_word(into: &mut Bits, word: u64) -> bool
-    requires some { 0 < into.old.width }
-    requires small { into.old.width ≤ 64 }
-    requires below { word < 2 ^ into.old.width }
-    ensures { IsWritten word into.old into.new result }
-{
-    let changed = only_word(into) != word;
-    if changed {
-        into.put(word);
+    SigWord {
+        width: value.width(),
+        number: value.only_word(),
     }
-    changed
-}
-
-/// Makes a word the number of a value of at most 64 bits, and tells whether that changed it.
-#[inline(always)]
-pub fn put_word(into: &mut Bits, word: u64) -> bool
-    requires small { into.old.width ≤ 64 }
-    requires below { word < 2 ^ into.old.width }
-    ensures { IsWritten word into.old into.new result }
-{
-    let changed = into.word() != word;
-    if changed {
-        into.put(word);
-    }
-    changed
 }

@@ -5,36 +5,13 @@ ghost use Rattle.signal_words.specs.Values.{digits_in, AreInside, IsInside, IsWo
 
 use crate::piece::{piece_value, piece_width, piece_word};
 use crate::signal::{sig_width, sig_word};
+use crate::values::{SigWord, is_one_word, word_of_value};
 use circuit::Piece;
-use sim_base::Bits;
-
-/// The width of a signal in bits, at most 64, and its number.
-#[derive(Clone, Copy, Debug)]
-pub struct SigWord {
-    pub width: u32,
-    pub number: u64,
-}
-
-/// The width and the number of a value of one word.
-#[inline(always)]
-fn word_of_value(value: &Bits) -> Option<SigWord>
-    ensures small { IfSome result (λ word. word.width ≤ 64) }
-    ensures width { IfSome result (λ word. word.width ≡ value.now.width) }
-    ensures number { IfSome result (λ word. word.number ≡ value.now.number) }
-    ensures below { IfSome result (λ word. word.number < 2 ^ word.width) }
-{
-    match value.words() {
-        [number] => Some(SigWord {
-            width: value.width(),
-            number: *number,
-        }),
-        _ => None,
-    }
-}
+use sim_base::{BitsView, Values};
 
 /// The width and the number of a piece of at most 64 bits that is less than a net.
 #[inline(always)]
-fn word_of_part(piece: &Piece, nets: &[Bits]) -> Option<SigWord>
+fn word_of_part(piece: &Piece, nets: &Values) -> Option<SigWord>
     requires { IsInside nets.now piece.now }
     ensures small { IfSome result (λ word. word.width ≤ 64) }
     ensures width { IfSome result (λ word. word.width ≡ piece_width piece.now) }
@@ -52,23 +29,26 @@ fn word_of_part(piece: &Piece, nets: &[Bits]) -> Option<SigWord>
 /// The width and the number of a piece of 1 to 64 bits, or of a part of at most 64. Most pieces are whole values,
 /// and those need no cut.
 #[inline(always)]
-fn word_of_piece(piece: &Piece, nets: &[Bits]) -> Option<SigWord>
+fn word_of_piece(piece: &Piece, nets: &Values) -> Option<SigWord>
     requires { IsInside nets.now piece.now }
     ensures small { IfSome result (λ word. word.width ≤ 64) }
     ensures width { IfSome result (λ word. word.width ≡ piece_width piece.now) }
     ensures number { IfSome result (λ word. word.number ≡ piece_number (digits_in nets.now) piece.now) }
     ensures below { IfSome result (λ word. word.number < 2 ^ word.width) }
 {
-    match piece_value(piece, nets) {
-        Some(value) => word_of_value(value),
-        None => word_of_part(piece, nets),
+    let Some(value) = piece_value(piece, nets) else {
+        return word_of_part(piece, nets);
+    };
+    if is_one_word(value.width()) {
+        return Some(word_of_value(&value));
     }
+    None
 }
 
 /// The width and the number of a signal that is one piece of 1 to 64 bits, or has no piece. Most signals are, and
 /// they are read without a loop.
 #[inline(always)]
-pub fn one_word(sig: &[Piece], nets: &[Bits]) -> Option<SigWord>
+pub fn one_word(sig: &[Piece], nets: &Values) -> Option<SigWord>
     requires { AreInside nets.now sig.now }
     ensures { IfSome result (λ word. IsWordOf nets.now sig.now word.width word.number) }
 {
@@ -83,7 +63,7 @@ pub fn one_word(sig: &[Piece], nets: &[Bits]) -> Option<SigWord>
 }
 
 /// The width and the number of a signal of any pieces, where it has at most 64 bits.
-pub fn word_of(sig: &[Piece], nets: &[Bits]) -> Option<SigWord>
+pub fn word_of(sig: &[Piece], nets: &Values) -> Option<SigWord>
     requires inside { AreInside nets.now sig.now }
     requires fits { sig_width sig.now < 2 ^ 32 }
     ensures word { IfSome result (λ word. IsWordOf nets.now sig.now word.width word.number) }
@@ -99,9 +79,9 @@ pub fn word_of(sig: &[Piece], nets: &[Bits]) -> Option<SigWord>
 
 /// The value that a signal is, where it is one piece: a constant, or a whole net.
 #[inline(always)]
-pub fn whole_value<'a>(sig: &'a [Piece], nets: &'a [Bits]) -> Option<&'a Bits>
+pub fn whole_value<'a>(sig: &'a [Piece], nets: &'a Values) -> Option<BitsView<'a>>
     requires { AreInside nets.now sig.now }
-    ensures { IfSome result (λ value. value.now ≡ sig_value (digits_in nets.now) sig.now) }
+    ensures { IfSome result (λ value. value ≡ sig_value (digits_in nets.now) sig.now) }
 {
     match sig {
         [piece] => piece_value(piece, nets),

@@ -4,3 +4,9 @@ pub mod Field
 pub mod Copies
 pub mod HexadecimalTexts
 pub mod Numerals
+pub mod Blocks
+pub mod Held
+pub mod Written
+pub mod Filled
+pub mod OneWord
+pub mod Filling

@@ -2,3 +2,4 @@ pub mod BitValue
 pub mod Digits
 pub mod TimeText
 pub mod Shape
+pub mod Values

@@ -4,6 +4,7 @@ ghost use Rattle.std.specs.Int.{bit_at};
 ghost use Rattle.sim_base.specs.BitValue.{AreWords, number_of_words, BitValue, digit_of, zeros, digit_after_set, digit_after_copy, bit_value};
 
 use crate::memory::NoMemory;
+use crate::view::BitsView;
 use std::alloc::Global;
 use std::marker::Model;
 
@@ -120,14 +121,8 @@ impl Bits {
         requires inside { at + n ≤ self.now.width }
         ensures { result ≡ self.now.number / 2 ^ at % 2 ^ n }
     {
-        if n == 0 {
-            return 0;
-        }
         let _ = &self.width;
-        let k = (at / 64) as usize;
-        let off = at % 64;
-        let high = if off + n > 64 { self.words[k + 1] } else { 0 };
-        low_digits(joined(self.words[k], high, off), n)
+        field_of(self.words.as_slice(), at, n)
     }
 
     /// The number of a value of at most 64 bits.
@@ -150,6 +145,17 @@ impl Bits {
         ensures fit { AreWords result.now }
     {
         self.words.as_slice()
+    }
+
+    /// The value, to be read where it stands.
+    #[inline(always)]
+    pub fn view(&self) -> BitsView<'_>
+        ensures { result ≡ self.now }
+    {
+        BitsView {
+            words: self.words.as_slice(),
+            width: self.width,
+        }
     }
 
     /// Makes `word` the one at this place of the words of 64 bits: the bits from `64 * place` on.
@@ -191,11 +197,31 @@ fn with_digit(word: u64, at: u32, v: bool) -> u64
     if v { word | mask } else { word & !mask }
 }
 
-fn low_digits(v: u64, n: u32) -> u64
-    requires { n ≤ 64 }
+/// The number of the `n` bits of words, at most 64, from `at` on.
+#[inline]
+pub(crate) fn field_of(words: &[u64], at: u32, n: u32) -> u64
+    requires small { n ≤ 64 }
+    requires inside { at + n ≤ 64 * length words.now }
+    requires fit { AreWords words.now }
+    ensures { result ≡ number_of_words words.now / 2 ^ at % 2 ^ n }
+{
+    if n == 0 {
+        return 0;
+    }
+    let k = (at / 64) as usize;
+    let off = at % 64;
+    let high = if off + n > 64 { words[k + 1] } else { 0 };
+    low_digits(joined(words[k], high, off), n)
+}
+
+/// The lowest digits of a word, 1 to 64 of them.
+#[inline(always)]
+pub fn low_digits(v: u64, n: u32) -> u64
+    requires some { 0 < n }
+    requires small { n ≤ 64 }
     ensures { result ≡ v % 2 ^ n }
 {
-    if n == 64 { v } else { v & ((1u64 << n) - 1) }
+    v & (u64::MAX >> (64 - n))
 }
 
 fn joined(low: u64, high: u64, off: u32) -> u64
@@ -209,7 +235,7 @@ fn joined(low: u64, high: u64, off: u32) -> u64
     }
 }
 
-fn merged(word: u64, off: u32, n: u32, v: u64) -> u64
+pub(crate) fn merged(word: u64, off: u32, n: u32, v: u64) -> u64
     requires inside { off + n ≤ 64 }
     requires low { off < 64 }
     ensures { (j : ℕ) → j < 64 → bit_at result j ≡ digit_after_copy off v 0 n word j }

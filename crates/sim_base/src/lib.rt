@@ -13,8 +13,10 @@ mod steps;
 #[cfg(test)]
 mod tests;
 mod time;
+mod values;
+mod view;
 
-pub use bits::Bits;
+pub use bits::{Bits, low_digits};
 pub use digits::{number_in_digits, write_lowest_digits};
 pub use kinds::Kinds;
 pub use memory::NoMemory;
@@ -22,3 +24,5 @@ pub use name::Name;
 pub use shape::Shape;
 pub use steps::Steps;
 pub use time::Time;
+pub use values::Values;
+pub use view::BitsView;

@@ -1,4 +1,3 @@
-pub mod Written
 pub mod Masks
 pub mod Same
 pub mod Overlaid

@@ -4,7 +4,7 @@ use Rattle.std.proofs.lemmas.Nat.Bits.{bit_at-lt}
 use Rattle.std.specs.Int.{bit_at}
 use Rattle.circuit.specs.Signal.{gathered}
 use Rattle.circuit.proofs.Gathered.{gathered_bit, gathered_below}
-use Rattle.state_cells.proofs.Written.{field_digit}
+use Rattle.sim_base.proofs.Field.{bit_at_mod, bit_at_shr}
 
 cond_below : (b : Bool) (x y : ℕ) → x < 2 → y < 2 → cond b x y < 2
 cond_below true x y a b = a
@@ -22,12 +22,12 @@ whole_below high_clr high_set clr set rest w = gathered_below w (digit_under hig
 
 -- a digit of the part that is taken of a number
 pub taken_digit : (number left word at n j : ℕ) → left ≡ number / 2 ^ at → word ≡ left % 2 ^ n → j < n → bit_at word j ≡ bit_at number (at + j)
-taken_digit number left word at n j l e lt = ap (λ m. bit_at m j) (e ∙ ap (λ m. m % 2 ^ n) l) ∙ field_digit number at n j lt
+taken_digit number left word at n j l e lt = ap (λ m. bit_at m j) (e ∙ ap (λ m. m % 2 ^ n) l) ∙ bit_at_mod (number / 2 ^ at) n j lt ∙ bit_at_shr number at j
 
 rest_digit : (from_input : Bool) (input old now left word own rest at n j : ℕ) → left ≡ input / 2 ^ at → word ≡ left % 2 ^ n → own ≡ now / 2 ^ at % 2 ^ n → rest ≡ cond from_input word own
     → ((i : ℕ) → at ≤ i → bit_at now i ≡ bit_at old i) → j < n → bit_at rest j ≡ bit_at (cond from_input input old) (at + j)
 rest_digit true input old now left word own rest at n j l e o r high lt = ap (λ m. bit_at m j) r ∙ taken_digit input left word at n j l e lt
-rest_digit false input old now left word own rest at n j l e o r high lt = ap (λ m. bit_at m j) (r ∙ o) ∙ field_digit now at n j lt ∙ high (at + j) (omega arith)
+rest_digit false input old now left word own rest at n j l e o r high lt = ap (λ m. bit_at m j) (r ∙ o) ∙ bit_at_mod (now / 2 ^ at) n j lt ∙ bit_at_shr now at j ∙ high (at + j) (omega arith)
 
 -- a part of a register: what is left of the signals, the words that are taken of them, and the word that is made of these
 pub record PartOf (high_clr high_set from_input : Bool) (clr set input old now at n word : ℕ) : Type 0 where

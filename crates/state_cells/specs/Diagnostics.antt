@@ -8,7 +8,8 @@ use Rattle.circuit.specs.Shown.{fails, is_triggered}
 use Rattle.circuit.specs.declared.diagnostic.Diag.{Diag}
 use Rattle.circuit.specs.declared.diagnostic.Trigger.{Trigger}
 use Rattle.circuit.specs.declared.store.Store.{Store}
-use Rattle.signal_words.specs.Values.{AreInside, numbers}
+use Rattle.sim_base.specs.Values.{numbers}
+use Rattle.signal_words.specs.Values.{AreInside}
 
 -- a diagnostic fires in one round: it is enabled and does not hold there, and it is triggered, if it has a trigger
 abbrev pub fires_where : Option Trigger → Diag → Round → Bool

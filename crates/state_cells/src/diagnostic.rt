@@ -2,12 +2,13 @@
 ghost use Rattle.std.specs.Prelude.{◌≡◌, ◌≤◌, ◌==◌, ◌&&◌, not, if◌then◌else◌};
 ghost use Rattle.circuit.specs.Shown.{fails, is_triggered, some_edge};
 ghost use Rattle.circuit.specs.Signal.{sig_width};
-ghost use Rattle.signal_words.specs.Values.{AreInside, digits_in, numbers};
+ghost use Rattle.sim_base.specs.Values.{numbers};
+ghost use Rattle.signal_words.specs.Values.{AreInside, digits_in};
 ghost use Rattle.state_cells.specs.Diagnostics.{fires_in, IsDiagnosticOf, IsTriggerOf, round_of};
 
 use circuit::{Diag, Store, Trigger};
 use signal_words::{SigReader, sig_word};
-use sim_base::Bits;
+use sim_base::Values;
 
 /// Whether a diagnostic fires in a round: with the values of the nets in the round before and in this
 /// one. It takes no memory.
@@ -16,16 +17,15 @@ pub fn fires(diag: &Diag, before: &Store, now: &Store) -> bool
     ensures { result ≡ fires_in diag.now (round_of before.now now.now) }
 {
     match &diag.trigger {
-        None => fails(diag, now.nets.as_slice()),
+        None => fails(diag, &now.nets),
         Some(trigger) => {
-            is_triggered(trigger, before.nets.as_slice(), now.nets.as_slice())
-                && fails(diag, now.nets.as_slice())
+            is_triggered(trigger, &before.nets, &now.nets) && fails(diag, &now.nets)
         }
     }
 }
 
 /// Whether it is enabled and does not hold.
-fn fails(diag: &Diag, nets: &[Bits]) -> bool
+fn fails(diag: &Diag, nets: &Values) -> bool
     requires en { AreInside nets.now diag.now.en }
     requires en_small { sig_width diag.now.en ≤ 64 }
     requires a { AreInside nets.now diag.now.a }
@@ -36,7 +36,7 @@ fn fails(diag: &Diag, nets: &[Bits]) -> bool
 }
 
 /// Whether some bit of a trigger has its edge.
-fn is_triggered(trigger: &Trigger, before: &[Bits], now: &[Bits]) -> bool
+fn is_triggered(trigger: &Trigger, before: &Values, now: &Values) -> bool
     requires { IsTriggerOf before.now now.now trigger.now }
     ensures { result ≡ some_edge (digits_in before.now) (digits_in now.now) trigger.now.on 0 trigger.now.rising }
 {

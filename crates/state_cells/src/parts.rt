@@ -1,24 +1,6 @@
-//! Words that are written into a value of bits.
-ghost use Rattle.std.specs.Prelude.{◌≡◌, ℕ, ◌+◌, ◌/◌, ◌%◌, ◌^◌, ◌<◌, ◌≤◌, ◌==◌, not, if◌then◌else◌};
+//! Words of digits that ports set and clear.
+ghost use Rattle.std.specs.Prelude.{◌≡◌, ℕ, ◌<◌, ◌==◌, if◌then◌else◌};
 ghost use Rattle.std.specs.Int.{bit_at};
-ghost use Rattle.sim_base.specs.BitValue.{digit_after_copy};
-
-use sim_base::Bits;
-
-/// Writes the lowest `n` digits of `word` to the bits from `at` on, and tells whether one of these
-/// changed.
-pub(crate) fn put_part(into: &mut Bits, at: u32, n: u32, word: u64) -> bool
-    requires small { n ≤ 64 }
-    requires inside { at + n ≤ into.old.width }
-    ensures width { into.new.width ≡ into.old.width }
-    ensures below { into.new.number < 2 ^ into.new.width }
-    ensures bits { (j : ℕ) → bit_at into.new.number j ≡ digit_after_copy at word 0 n into.old.number j }
-    ensures changed { result ≡ not (into.old.number / 2 ^ at % 2 ^ n == into.new.number / 2 ^ at % 2 ^ n) }
-{
-    let old = into.field(at, n);
-    into.put_field(at, n, word);
-    into.field(at, n) != old
-}
 
 /// The digits at which a port is active: those that are 1, or for a port that is active low those that
 /// are 0.

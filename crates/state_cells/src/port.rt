@@ -6,10 +6,10 @@ ghost use Rattle.signal_words.specs.Values.{AreInside, digits_in};
 
 use circuit::Piece;
 use signal_words::sig_word;
-use sim_base::Bits;
+use sim_base::Values;
 
 /// Whether a port is active.
-pub fn is_active(high: bool, port: &[Piece], nets: &[Bits]) -> bool
+pub fn is_active(high: bool, port: &[Piece], nets: &Values) -> bool
     requires inside { AreInside nets.now port.now }
     requires small { sig_width port.now ≤ 64 }
     ensures { result ≡ is_active high (digits_in nets.now) port.now }
@@ -18,7 +18,7 @@ pub fn is_active(high: bool, port: &[Piece], nets: &[Bits]) -> bool
 }
 
 /// Whether a clock has its edge between two rounds.
-pub fn has_edge(rising: bool, before: &[Bits], now: &[Bits], clk: &[Piece]) -> bool
+pub fn has_edge(rising: bool, before: &Values, now: &Values, clk: &[Piece]) -> bool
     requires before { AreInside before.now clk.now }
     requires now { AreInside now.now clk.now }
     requires small { sig_width clk.now ≤ 64 }

@@ -9,7 +9,7 @@ ghost use Rattle.state_cells.specs.Sources.{has_source, is_input, number_of, und
 
 use crate::port::{has_edge, is_active};
 use circuit::{Reg, RegKind};
-use sim_base::Bits;
+use sim_base::Values;
 
 /// Where the next value of a register comes from, apart from the bits that are set or cleared one by one.
 #[derive(Clone, Copy, Debug)]
@@ -32,7 +32,7 @@ impl Source {
 }
 
 /// Whether the clock has its edge.
-fn edge(reg: &Reg, before: &[Bits], now: &[Bits]) -> bool
+fn edge(reg: &Reg, before: &Values, now: &Values) -> bool
     requires before { AreInside before.now reg.now.clk }
     requires now { AreInside now.now reg.now.clk }
     requires small { sig_width reg.now.clk ≤ 64 }
@@ -42,7 +42,7 @@ fn edge(reg: &Reg, before: &[Bits], now: &[Bits]) -> bool
 }
 
 /// Whether the enable is active.
-fn enabled(reg: &Reg, now: &[Bits]) -> bool
+fn enabled(reg: &Reg, now: &Values) -> bool
     requires inside { AreInside now.now reg.now.en }
     requires small { sig_width reg.now.en ≤ 64 }
     ensures { result ≡ is_active reg.now.pol.en (digits_in now.now) reg.now.en }
@@ -51,7 +51,7 @@ fn enabled(reg: &Reg, now: &[Bits]) -> bool
 }
 
 /// Whether the reset of all bits is active.
-fn reset(reg: &Reg, now: &[Bits]) -> bool
+fn reset(reg: &Reg, now: &Values) -> bool
     requires inside { AreInside now.now reg.now.clr }
     requires small { sig_width reg.now.clr ≤ 64 }
     ensures { result ≡ is_active reg.now.pol.clr (digits_in now.now) reg.now.clr }
@@ -60,7 +60,7 @@ fn reset(reg: &Reg, now: &[Bits]) -> bool
 }
 
 /// Whether the load is active.
-fn loaded(reg: &Reg, now: &[Bits]) -> bool
+fn loaded(reg: &Reg, now: &Values) -> bool
     requires inside { AreInside now.now reg.now.load }
     requires small { sig_width reg.now.load ≤ 64 }
     ensures { result ≡ is_active reg.now.pol.load (digits_in now.now) reg.now.load }
@@ -93,7 +93,7 @@ fn load_or(active: bool, other: Source) -> Source
 }
 
 /// Where the next value comes from: by the first line of its kind's table that holds.
-pub(crate) fn source_of(reg: &Reg, before: &[Bits], now: &[Bits]) -> Source
+pub(crate) fn source_of(reg: &Reg, before: &Values, now: &Values) -> Source
     requires { IsRegisterOf before.now now.now reg.now }
     ensures there { has_source (ports_of_kind reg.now.kind) result ≡ true }
     ensures number { (own : ℕ) → let a = register_inputs (digits_in before.now) (digits_in now.now) reg.now in

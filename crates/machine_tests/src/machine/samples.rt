@@ -44,7 +44,7 @@ fn has_nets(circuit: &Circuit, machine: &Machine, wanted: &[u64]) -> bool
     let mut n = 0u32;
     for number in wanted {
         if (n as usize) < circuit.nets.len() {
-            same &= number_of(machine.net(n)) == *number;
+            same &= number_of(&machine.net(n)) == *number;
         }
         n = n.saturating_add(1);
     }
@@ -148,7 +148,7 @@ fn row_of(
     }
     let mut row = Bits::zero(alloc, mem.width)?;
     machine.row(0, i, &mut row);
-    Ok(Some(number_of(&row)))
+    Ok(Some(number_of(&row.view())))
 }
 
 /// Whether row 2 of the first memory has one number before the first of two samples, and the other behind them.

@@ -2,7 +2,7 @@
 ghost use Rattle.std.specs.Prelude.{◌≡◌, ◌*◌, IfOk, map, true};
 ghost use Rattle.circuit.specs.Valid.{is_valid};
 ghost use Rattle.signal_words.specs.Stores.{IsStoreOf};
-ghost use Rattle.signal_words.specs.Values.{widths};
+ghost use Rattle.sim_base.specs.Values.{widths};
 
 use crate::memories::parts::{circuit_of, number, part, set_bit, set_every, store_of, value};
 use circuit::{Circuit, Mem, ReadPort, Store, WritePort};
@@ -424,8 +424,8 @@ fn write_row(
 {
     let before = store_of(alloc, circuit, [0].as_slice())?;
     let mut now = store_of(alloc, circuit, [1, 1].as_slice())?;
-    set_every(&mut now, 2, 2);
-    set_every(&mut now, 3, 3);
+    set_every(&mut now, 2, 2, 130);
+    set_every(&mut now, 3, 3, 130);
     let first = clock(circuit, rows, &before, &now, &mut []);
     let second = clock(circuit, rows, &before, &now, &mut []);
     Ok((first, second))

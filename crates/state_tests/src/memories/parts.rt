@@ -61,55 +61,39 @@ pub fn circuit_of(alloc: Global, widths: &[u32], mem: Mem) -> Result<Circuit, No
     })
 }
 
-fn put_number(bits: &mut Bits, number: u64)
-    ensures { bits.new.width ≡ bits.old.width }
-{
-    let width = bits.width();
-    bits.put_field(0, width.min(64), number);
-}
-
 /// Writes the lowest 64 bits of a net.
-pub fn set_net(store: &mut Store, net: usize, number: u64)
+pub fn set_net(store: &mut Store, net: u32, number: u64)
     ensures { (c : Circuit) → IsStoreOf c store.old → IsStoreOf c store.new }
 {
-    if net < store.nets.len() {
-        put_number(store.nets.at(net), number);
+    if (net as usize) < store.nets.len() {
+        let width = store.nets.width(net);
+        store.nets.put_field(net, 0, width.min(64), number);
     }
 }
 
-fn put_bit(bits: &mut Bits, i: u32)
-    ensures { bits.new.width ≡ bits.old.width }
+/// Writes a bit of a net.
+pub fn put_bit(store: &mut Store, net: u32, i: u32, bit: bool)
+    ensures { (c : Circuit) → IsStoreOf c store.old → IsStoreOf c store.new }
 {
-    if i < bits.width() {
-        bits.set(i, true);
+    if (net as usize) < store.nets.len() && i < store.nets.width(net) {
+        store.nets.put_field(net, i, 1, u64::from(bit));
     }
 }
 
 /// Makes a bit of a net 1.
-pub fn set_bit(store: &mut Store, net: usize, i: u32)
+pub fn set_bit(store: &mut Store, net: u32, i: u32)
     ensures { (c : Circuit) → IsStoreOf c store.old → IsStoreOf c store.new }
 {
-    if net < store.nets.len() {
-        put_bit(store.nets.at(net), i);
-    }
+    put_bit(store, net, i, true);
 }
 
-fn put_every(bits: &mut Bits, n: u32)
-    requires { 0 < n }
-    ensures { bits.new.width ≡ bits.old.width }
-{
-    for i in 0..bits.width() {
-        bits.set(i, i % n == 0);
-    }
-}
-
-/// Makes every `n`-th bit of a net 1, from bit 0 on.
-pub fn set_every(store: &mut Store, net: usize, n: u32)
+/// Makes every `n`-th bit of a net 1, from bit 0 on, of so many bits.
+pub fn set_every(store: &mut Store, net: u32, n: u32, bits: u32)
     requires { 0 < n }
     ensures { (c : Circuit) → IsStoreOf c store.old → IsStoreOf c store.new }
 {
-    if net < store.nets.len() {
-        put_every(store.nets.at(net), n);
+    for i in 0..bits {
+        put_bit(store, net, i, i % n == 0);
     }
 }
 
@@ -120,8 +104,10 @@ pub fn store_of(alloc: Global, circuit: &Circuit, numbers: &[u64]) -> Result<Sto
 {
     law_of_start();
     let mut store = Store::new(alloc, circuit)?;
-    for (net, number) in numbers.iter().enumerate() {
+    let mut net = 0u32;
+    for number in numbers {
         set_net(&mut store, net, *number);
+        net = net.saturating_add(1);
     }
     Ok(store)
 }

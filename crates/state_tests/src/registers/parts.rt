@@ -6,7 +6,7 @@ ghost use Rattle.signal_words.specs.Stores.{IsStoreOf};
 
 use circuit::{Circuit, Diag, Net, Piece, Reg, Scope, Sig, Store};
 use signal_words::law_of_start;
-use sim_base::{Bits, Name, NoMemory};
+use sim_base::{Bits, Name, NoMemory, Values};
 use sqlite_items::Items;
 use std::alloc::Global;
 
@@ -17,10 +17,28 @@ pub fn value(alloc: Global, width: u32, number: u64) -> Result<Bits, NoMemory> {
     Ok(bits)
 }
 
-/// The number of the lowest 64 bits.
-pub fn number(bits: &Bits) -> u64 {
-    let width = bits.width();
-    bits.field(0, width.min(64))
+/// A list of one such value.
+pub fn one_value(alloc: Global, width: u32, number: u64) -> Result<Values, NoMemory> {
+    let values = vec![in alloc; value(alloc, width, number)?]?;
+    Values::of(alloc, values.as_slice())
+}
+
+/// The number of the lowest 64 bits of the first of the values.
+pub fn number(values: &Values) -> u64 {
+    if values.len() == 0 {
+        return 0;
+    }
+    let bits = values.view(0);
+    bits.field(0, bits.width().min(64))
+}
+
+/// Whether a bit of the first of the values is 1.
+pub fn has_bit(values: &Values, i: u32) -> bool {
+    if values.len() == 0 {
+        return false;
+    }
+    let bits = values.view(0);
+    i < bits.width() && bits.field(i, 1) == 1
 }
 
 /// The lowest bits of a net, or no bits.
@@ -70,38 +88,32 @@ pub fn circuit_of(
     })
 }
 
-fn put_number(bits: &mut Bits, number: u64)
-    ensures { bits.new.width ≡ bits.old.width }
-{
-    let width = bits.width();
-    bits.put_field(0, width.min(64), number);
-}
-
 /// Writes the lowest 64 bits of a net.
-pub fn set_net(store: &mut Store, net: usize, number: u64)
+pub fn set_net(store: &mut Store, net: u32, number: u64)
     ensures { (c : Circuit) → IsStoreOf c store.old → IsStoreOf c store.new }
 {
-    if net < store.nets.len() {
-        put_number(store.nets.at(net), number);
+    if (net as usize) < store.nets.len() {
+        let width = store.nets.width(net);
+        store.nets.put_field(net, 0, width.min(64), number);
     }
 }
 
-fn put_every(bits: &mut Bits, n: u32)
-    requires { 0 < n }
-    ensures { bits.new.width ≡ bits.old.width }
+/// Writes a bit of a net.
+pub fn put_bit(store: &mut Store, net: u32, i: u32, bit: bool)
+    ensures { (c : Circuit) → IsStoreOf c store.old → IsStoreOf c store.new }
 {
-    for i in 0..bits.width() {
-        bits.set(i, i % n == 0);
+    if (net as usize) < store.nets.len() && i < store.nets.width(net) {
+        store.nets.put_field(net, i, 1, u64::from(bit));
     }
 }
 
-/// Makes every `n`-th bit of a net 1, from bit 0 on.
-pub fn set_every(store: &mut Store, net: usize, n: u32)
+/// Makes every `n`-th bit of a net 1, from bit 0 on, of so many bits.
+pub fn set_every(store: &mut Store, net: u32, n: u32, bits: u32)
     requires { 0 < n }
     ensures { (c : Circuit) → IsStoreOf c store.old → IsStoreOf c store.new }
 {
-    if net < store.nets.len() {
-        put_every(store.nets.at(net), n);
+    for i in 0..bits {
+        put_bit(store, net, i, i % n == 0);
     }
 }
 
@@ -112,8 +124,10 @@ pub fn store_of(alloc: Global, circuit: &Circuit, numbers: &[u64]) -> Result<Sto
 {
     law_of_start();
     let mut store = Store::new(alloc, circuit)?;
-    for (net, number) in numbers.iter().enumerate() {
+    let mut net = 0u32;
+    for number in numbers {
         set_net(&mut store, net, *number);
+        net = net.saturating_add(1);
     }
     Ok(store)
 }

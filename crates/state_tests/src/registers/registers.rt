@@ -3,9 +3,11 @@ ghost use Rattle.std.specs.Prelude.{◌≡◌, IfOk, true};
 ghost use Rattle.circuit.specs.Valid.{is_valid};
 ghost use Rattle.signal_words.specs.Stores.{IsStoreOf};
 
-use crate::registers::parts::{circuit_of, number, part, set_every, store_of, value};
+use crate::registers::parts::{
+    circuit_of, has_bit, number, one_value, part, set_every, store_of, value,
+};
 use circuit::{Circuit, Polarity, Reg, RegKind, Store};
-use sim_base::{Bits, NoMemory};
+use sim_base::{NoMemory, Values};
 use sqlite_items::Items;
 use state_cells::{law_of_rounds, next};
 use std::alloc::Global;
@@ -88,17 +90,17 @@ fn circuit_with(
 
 /// The next value of the circuit's register in the place of its present one, and whether they differ;
 /// none where the value has another width.
-fn next_of(circuit: &Circuit, before: &Store, now: &Store, into: &mut Bits) -> Option<bool>
+fn next_of(circuit: &Circuit, before: &Store, now: &Store, into: &mut Values) -> Option<bool>
     requires valid { is_valid circuit.now ≡ true }
     requires before { IsStoreOf circuit.now before.now }
     requires now { IsStoreOf circuit.now now.now }
 {
     law_of_rounds();
     let reg = circuit.regs.get(0)?;
-    if into.width() != reg.width {
+    if into.len() == 0 || into.width(0) != reg.width {
         return None;
     }
-    Some(next(reg, before, now, into))
+    Some(next(reg, before, now, into, 0))
 }
 
 /// Which ports are active: the clock in both rounds, the enable, the bits that are set, the bits that are
@@ -148,7 +150,7 @@ fn check_row(rt: &impl Abort, alloc: Global, row: Row, pol: Polarity) -> Result<
         return Err("not valid".into());
     }
     let (before, now) = stores(alloc, &circuit, row, pol)?;
-    let mut into = value(alloc, 4, 0xA)?;
+    let mut into = one_value(alloc, 4, 0xA)?;
     let changed = next_of(&circuit, &before, &now, &mut into);
     assert_eq!(rt; number(&into), row.6);
     assert_eq!(rt; changed, Some(row.6 != 0xA));
@@ -253,14 +255,14 @@ pub fn check_bits(rt: &impl Abort, alloc: Global) -> Result<(), Fail> {
 }
 
 /// A store in which every third bit of the input is 1, every fifth of set and every seventh of clear.
-fn patterns(alloc: Global, circuit: &Circuit, clk: u64) -> Result<Store, NoMemory>
+fn patterns(alloc: Global, circuit: &Circuit, width: u32, clk: u64) -> Result<Store, NoMemory>
     requires { is_valid circuit.now ≡ true }
     ensures { IfOk result (λ store. IsStoreOf circuit.now store) }
 {
     let mut store = store_of(alloc, circuit, [clk].as_slice())?;
-    set_every(&mut store, 1, 3);
-    set_every(&mut store, 3, 5);
-    set_every(&mut store, 4, 7);
+    set_every(&mut store, 1, 3, width);
+    set_every(&mut store, 3, 5, width);
+    set_every(&mut store, 4, 7, width);
     Ok(store)
 }
 
@@ -284,14 +286,14 @@ fn check_width(rt: &impl Abort, alloc: Global, kind: RegKind, width: u32) -> Res
     if !circuit.validate() {
         return Err("not valid".into());
     }
-    let before = patterns(alloc, &circuit, 0)?;
-    let now = patterns(alloc, &circuit, 1)?;
-    let mut into = Bits::zero(alloc, width)?;
+    let before = patterns(alloc, &circuit, width, 0)?;
+    let now = patterns(alloc, &circuit, width, 1)?;
+    let mut into = one_value(alloc, width, 0)?;
     let changed = next_of(&circuit, &before, &now, &mut into);
     let mut some = false;
-    for i in 0..into.width() {
+    for i in 0..width {
         let want = wanted(ports_of(kind).bits, i);
-        assert_eq!(rt; into.bit(i), want, "bit {i} of {width}");
+        assert_eq!(rt; has_bit(&into, i), want, "bit {i} of {width}");
         some = some || want;
     }
     assert_eq!(rt; changed, Some(some));
@@ -334,7 +336,7 @@ fn check_round(
         [0, before.0, before.1, 0, before.2].as_slice(),
     )?;
     let now = store_of(alloc, &circuit, [1, now.0, now.1, 0, now.2].as_slice())?;
-    let mut into = value(alloc, 4, 0xA)?;
+    let mut into = one_value(alloc, 4, 0xA)?;
     assert_eq!(rt;
         next_of(&circuit, &before, &now, &mut into),
         Some(want != 0xA)

@@ -1,22 +1,40 @@
-use Rattle.std.proofs.Common.{◌≡◌, ◌+◌, ◌/◌, ◌%◌, ◌<◌, ◌≤◌, ◌^◌, sym, ◌∙◌, subst, arith}
-use Rattle.cell_wide.proofs.Written.{field_same, field_changed, written}
+use Rattle.std.proofs.Common.{◌≡◌, ◌+◌, ◌-◌, ◌/◌, ◌%◌, ◌<◌, ◌≤◌, ◌^◌, min, sym, ◌∙◌, ap, subst, arith}
+use Rattle.sim_base.specs.Values.{IsPut}
+use Rattle.sim_base.proofs.Filling.{filling_all, filling_below, filling_more, filling_none, filling_there}
+use Rattle.cell_wide.proofs.Written.{more_passed, part_written, starts}
 use Rattle.cell_wide.proofs.write.write.Goals as goal
-use Rattle.cell_wide.proofs.write.write.Goals.{then-word_at-word, else-word_at-word}
+
+pub loop-at-init : goal.loop-at-init
+loop-at-init g c = record {
+  passed = starts (g.W.Words.low c.args.words.now) (g.met.W.Words.below c.args.words.now 0);
+  filling = filling_none c.args.into.now c.args.out _ c.width-width.result;
+}
+
+pub put_word_at-part-requires-clause-there : goal.put_word_at-part-requires-clause-there
+put_word_at-part-requires-clause-there g c = filling_there _ _ _ _ _ _ _ c.loop-at.invariant.filling c.requires
+
+pub put_word_at-part-requires-clause-inside : goal.put_word_at-part-requires-clause-inside
+put_word_at-part-requires-clause-inside g c =
+    let lt = subst (λ x. x < 2 ^ c.min-n.result) (sym c.next_word-word.ensures.word) (g.met.W.Words.below c.loop-at.words c.min-n.result) in
+    (filling_below _ _ _ _ _ _ c.min-n.result c.next_word-word.result _ c.loop-at.invariant.filling c.loop-at-test.true c.min-n.ensures c.width-width.ensures.value lt).0
+
+pub put_word_at-part-requires-clause-below : goal.put_word_at-part-requires-clause-below
+put_word_at-part-requires-clause-below g c =
+    let lt = subst (λ x. x < 2 ^ c.min-n.result) (sym c.next_word-word.ensures.word) (g.met.W.Words.below c.loop-at.words c.min-n.result) in
+    (filling_below _ _ _ _ _ _ c.min-n.result c.next_word-word.result _ c.loop-at.invariant.filling c.loop-at-test.true c.min-n.ensures c.width-width.ensures.value lt).1
 
 pub loop-at-preserved : goal.loop-at-preserved
 loop-at-preserved g c =
-    let fits : c.loop-at.at + c.min-n.result ≤ c.width-width.result = omega (arith, c.min-n.ensures, c.loop-at-test.true) in
-    let below = g.met.W.Words.below c.args.words.now c.loop-at.at in
     let lt = subst (λ x. x < 2 ^ c.min-n.result) (sym c.next_word-word.ensures.word) (g.met.W.Words.below c.loop-at.words c.min-n.result) in
-    elim c.if-word_at-word.branch [
-      | then-word_at-word w ↦
-          rw (w.into-is, w.changed-is) (field_changed (g.W.Words.low c.args.words.now) (g.W.Words.low c.loop-at.words) (g.W.Words.low c.next_word-word.new.words) c.args.into.now c.loop-at.into c.width-width.result c.loop-at.at c.min-n.result c.next_word-word.result c.loop-at.changed
-          c.loop-at.invariant below fits c.next_word-word.ensures.rest c.next_word-word.ensures.word w.put_field.new.self w.put_field.ensures.width w.put_field.ensures.bits lt (λ (is : c.loop-at.into.number / 2 ^ c.loop-at.at % 2 ^ c.min-n.result ≡ c.next_word-word.result). w.if-word_at-word.true (c.word_at.ensures ∙ is)))
-      | else-word_at-word w ↦
-          rw (w.into-is, w.changed-is) (field_same (g.W.Words.low c.args.words.now) (g.W.Words.low c.loop-at.words) (g.W.Words.low c.next_word-word.new.words) c.args.into.now c.loop-at.into c.width-width.result c.loop-at.at c.min-n.result c.next_word-word.result c.loop-at.changed
-          c.loop-at.invariant below fits c.next_word-word.ensures.rest c.next_word-word.ensures.word (sym c.word_at.ensures ∙ w.if-word_at-word.false))
-    ]
+    record {
+      passed = more_passed (g.W.Words.low c.args.words.now) (g.W.Words.low c.loop-at.words) (g.W.Words.low c.next_word-word.new.words) c.loop-at.at c.min-n.result c.next_word-word.result c.loop-at.invariant.passed c.next_word-word.ensures.rest c.next_word-word.ensures.word;
+      filling = filling_more _ _ _ _ _ _ _ c.min-n.result c.next_word-word.result _ _ c.loop-at.invariant.filling c.loop-at-test.true c.min-n.ensures
+          (record { value = c.put_word_at-part.ensures.value; bits = c.put_word_at-part.ensures.bits; changed = c.put_word_at-part.ensures.changed })
+          (part_written (g.W.Words.low c.args.words.now) (g.W.Words.low c.loop-at.words) (g.W.Words.low c.next_word-word.new.words) c.width-width.result c.loop-at.at c.min-n.result c.next_word-word.result c.loop-at.invariant.passed c.next_word-word.ensures.rest
+          (g.met.W.Words.below c.args.words.now c.loop-at.at) lt (g.met.W.Words.below c.args.words.now c.width-width.result) c.loop-at-test.true c.min-n.ensures);
+    }
 
 pub returns : goal.returns
 returns g c =
-    written (g.W.Words.low c.args.words.now) (g.W.Words.low c.loop-at.words) c.args.into.now c.loop-at.into c.width-width.result c.loop-at.at c.loop-at.changed c.loop-at.invariant c.width-width.ensures.below c.loop-at-test.false
+    let r = filling_all _ _ _ _ _ _ _ c.loop-at.invariant.filling c.loop-at-test.false c.width-width.ensures.value c.width-width.ensures.below (g.met.W.Words.below c.args.words.now c.width-width.result) in
+    subst (λ k. IsPut c.args.out (g.W.Words.low c.args.words.now k) c.args.into.now c.loop-at.into c.loop-at.changed) c.width-width.ensures.value r

@@ -3,7 +3,8 @@ use Rattle.std.proofs.Math.Nat.{pow-le-pow_right}
 use Rattle.circuit.specs.Output.{formula, cell_inputs, output}
 use Rattle.signal_words.specs.Values.{digits_in, IsWordOf}
 use Rattle.signal_words.proofs.Modulo.{modulo_lower}
-use Rattle.signal_words.proofs.Told.{same_written}
+use Rattle.sim_base.specs.Values.{width_at}
+use Rattle.signal_words.proofs.Told.{same_put}
 use Rattle.cell_words.specs.Shifts.{is_below_zero, IsPlain}
 use Rattle.cell_words.proofs.shifting.shifted.Goals as goal
 use Rattle.cell_words.proofs.shifting.shifted.Goals.{then-is_below_zero, else-is_below_zero}
@@ -38,6 +39,6 @@ pub returns-then-not-below : goal.returns-then-not-below
 returns-then-not-below c =
     let cell = c.args.cell.now in
     let i = cell_inputs (digits_in c.args.nets.now) cell in
-    let number : c.shifted_plainly-number.result % 2 ^ c.args.into.now.width ≡ output (digits_in c.args.nets.now) cell =
+    let number : c.shifted_plainly-number.result % 2 ^ (width_at c.args.into.now c.args.out) ≡ output (digits_in c.args.nets.now) cell =
     ap (λ w. c.shifted_plainly-number.result % 2 ^ w) c.requires.ready.into_width ∙ ap (λ n. n % 2 ^ cell.width) (c.shifted_plainly-number.ensures i (plain c)) ∙ modulo_lower cell.width 64 (formula cell.op i) c.if-cell-le64.true in
-    same_written _ _ _ _ _ number c.put_low_word.ensures
+    same_put _ _ _ _ _ _ number c.put_low_word.ensures

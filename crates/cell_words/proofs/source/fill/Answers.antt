@@ -1,29 +1,38 @@
-use Rattle.std.proofs.Common.{ℕ, ◌≡◌, ◌/◌, ◌%◌, ◌^◌, ◌<◌, ◌==◌, not, ◌∙◌, ap, subst, arith}
-use Rattle.std.proofs.lemmas.Nat.{shr-shr}
-use Rattle.sim_base.specs.BitValue.{bit_value}
-use Rattle.cell_words.proofs.Filled.{Filled, filled_more, filled_all}
+use Rattle.std.proofs.Common.{◌≡◌, ◌-◌, ◌/◌, ◌%◌, ◌^◌, ◌<◌, ◌∙◌, min, ap, subst, sym, arith}
+use Rattle.std.proofs.lemmas.Nat.{shr-shr, mod_below, pow_pos}
+use Rattle.sim_base.specs.Values.{IsPut}
+use Rattle.sim_base.proofs.Filling.{filling_all, filling_below, filling_more, filling_none, filling_there, word_part}
 use Rattle.cell_words.proofs.source.fill.Goals as goal
+
+pub loop-done-init : goal.loop-done-init
+loop-done-init c = record {
+  source = grind arith;
+  filling = filling_none c.args.into.now c.args.out (c.args.source.now % 2 ^ c.width-width.result) c.width-width.result;
+}
+
+pub put_word_at-part-requires-clause-there : goal.put_word_at-part-requires-clause-there
+put_word_at-part-requires-clause-there c = filling_there _ _ _ _ _ _ _ c.loop-done.invariant.filling c.requires
+
+below : (c : goal.After-put_word_at-arg-1) → c.take-word.result < 2 ^ c.min-n.result
+below c = subst (λ x. x < 2 ^ c.min-n.result) (sym c.take-word.ensures.word) (mod_below c.loop-done.source (2 ^ c.min-n.result) (pow_pos c.min-n.result))
+
+pub put_word_at-part-requires-clause-inside : goal.put_word_at-part-requires-clause-inside
+put_word_at-part-requires-clause-inside c =
+    (filling_below _ _ _ _ _ _ c.min-n.result c.take-word.result _ c.loop-done.invariant.filling c.loop-done-test.true c.min-n.ensures c.width-width.ensures.value (below c)).0
+
+pub put_word_at-part-requires-clause-below : goal.put_word_at-part-requires-clause-below
+put_word_at-part-requires-clause-below c =
+    (filling_below _ _ _ _ _ _ c.min-n.result c.take-word.result _ c.loop-done.invariant.filling c.loop-done-test.true c.min-n.ensures c.width-width.ensures.value (below c)).1
 
 pub loop-done-preserved : goal.loop-done-preserved
 loop-done-preserved c = record {
-  most = omega (arith, c.min-n.ensures, c.loop-done-test.true);
-  width = c.put_part-part.ensures.width ∙ c.loop-done.invariant.width;
-  below = c.put_part-part.ensures.below;
   source = c.take-word.ensures.rest ∙ ap (λ x. x / 2 ^ c.min-n.result) c.loop-done.invariant.source ∙ shr-shr c.args.source.now c.loop-done.done c.min-n.result;
-  filled = filled_more c.loop-done.done c.min-n.result c.args.source.now c.args.into.now.number c.loop-done.into.number c.put_part-part.new.into.number c.take-word.result c.loop-done.changed c.put_part-part.result
-      c.loop-done.invariant.filled (c.take-word.ensures.word ∙ ap (λ x. x % 2 ^ c.min-n.result) c.loop-done.invariant.source) c.put_part-part.ensures.bits c.put_part-part.ensures.changed;
+  filling = filling_more _ _ _ _ _ _ _ c.min-n.result c.take-word.result _ _ c.loop-done.invariant.filling c.loop-done-test.true c.min-n.ensures
+      (record { value = c.put_word_at-part.ensures.value; bits = c.put_word_at-part.ensures.bits; changed = c.put_word_at-part.ensures.changed })
+      (c.take-word.ensures.word ∙ ap (λ x. x % 2 ^ c.min-n.result) c.loop-done.invariant.source ∙ word_part c.args.source.now c.width-width.result c.loop-done.done c.min-n.result c.loop-done-test.true c.min-n.ensures);
 }
-
-all : (c : goal.After-loop-done) → (c.loop-done.into.number ≡ c.args.source.now % 2 ^ c.args.into.now.width) × (c.loop-done.changed ≡ not (c.args.into.now.number == c.args.source.now % 2 ^ c.args.into.now.width))
-all c =
-    let e : c.loop-done.done ≡ c.args.into.now.width = omega (arith, c.width-width.ensures.value, c.loop-done.invariant.most, c.loop-done-test.false) in
-    filled_all c.args.into.now.width c.args.source.now c.args.into.now.number c.loop-done.into.number c.loop-done.changed
-    (subst (λ (k : ℕ). Filled k c.args.source.now c.args.into.now.number c.loop-done.into.number c.loop-done.changed) e c.loop-done.invariant.filled)
-    c.width-width.ensures.below
-    (subst (λ (k : ℕ). c.loop-done.into.number < 2 ^ k) c.loop-done.invariant.width c.loop-done.invariant.below)
 
 pub returns : goal.returns
-returns c = record {
-  value = ap (λ w. bit_value w c.loop-done.into.number) c.loop-done.invariant.width ∙ ap (bit_value c.args.into.now.width) (all c).0;
-  told = (all c).1;
-}
+returns c =
+    let r = filling_all _ _ _ _ _ _ _ c.loop-done.invariant.filling c.loop-done-test.false c.width-width.ensures.value c.width-width.ensures.below (mod_below c.args.source.now (2 ^ c.width-width.result) (pow_pos c.width-width.result)) in
+    subst (λ k. IsPut c.args.out (c.args.source.now % 2 ^ k) c.args.into.now c.loop-done.into c.loop-done.changed) c.width-width.ensures.value r

@@ -1,5 +1,6 @@
-use Rattle.std.proofs.Common.{◌≡◌, map, take}
+use Rattle.std.proofs.Common.{◌≡◌, map}
+use Rattle.sim_base.proofs.Filled.{filled}
 use Rattle.circuit.proofs.store.start_regs.Given as goal
 
-abbrev pub invariant-loop-reg : goal.invariant-loop-reg
-invariant-loop-reg l = l.values ≡ map (λ r. r.init) (take l.reg-index l.regs)
+abbrev pub invariant-loop-n : goal.invariant-loop-n
+invariant-loop-n l = l.values ≡ filled (map (λ r. r.init) l.regs) l.n

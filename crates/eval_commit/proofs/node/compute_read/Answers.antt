@@ -47,8 +47,8 @@ spread-requires-clause-listed c =
     let at = fetched c.args.circuit.now.mems c.as_slice.result.now c.args.m c.index-as_slice-m.result c.as_slice.ensures (within c.args.circuit.now.mems c.args.m c.requires.there.0 c.requires.there.1) c.index-as_slice-m.is in
     let lt = subst (λ (x : Mem). c.args.n < length x.reads) (same c.args.circuit.now.mems c.args.m c.requires.there.0 c.index-as_slice-m.result c.requires.there.1 at) c.requires.there.2 in
     let p = found c.index-as_slice-m.result.reads c.args.n lt in
-    read_listed c.args.circuit.now c.args.plan.now.roots c.as_slice-2.result.now c.args.plan.now.sources c.args.m c.args.n c.read_port.new.into.width c.index-as_slice-m.result c.roots_of_read-places.result.now
-    c.as_slice-2.ensures c.roots_of_read-places.ensures c.requires.roots c.requires.sources at lt (ap (λ (u : BitValue). u.width) (c.read_port.ensures p.0 p.1))
+    read_listed c.args.circuit.now c.args.plan.now.roots c.as_slice-2.result.now c.args.plan.now.sources c.args.m c.args.n c.view.result.width c.index-as_slice-m.result c.roots_of_read-places.result.now
+    c.as_slice-2.ensures c.roots_of_read-places.ensures c.requires.roots c.requires.sources at lt (ap (λ (u : BitValue). u.width) (c.view.ensures ∙ c.read_port.ensures p.0 p.1))
 
 pub returns-clause-rooms : goal.returns-clause-rooms
 returns-clause-rooms c =
@@ -65,8 +65,8 @@ returns-clause-spread c =
     let lt = subst (λ (x : Mem). c.args.n < length x.reads) (same c.args.circuit.now.mems c.args.m c.requires.there.0 c.index-as_slice-m.result c.requires.there.1 at) c.requires.there.2 in
     let p = found c.index-as_slice-m.result.reads c.args.n lt in
     let rows : slice_get c.args.rows.now c.args.m ≡ Some c.index-rows-m.result = read c.args.rows.now c.args.m c.index-rows-m.result (omega (arith, mlt, c.requires.rows.long)) c.index-rows-m.is in
-    spread_as c.args.plan.now.roots c.as_slice-2.result.now _ c.roots_of_read-places.result.now _ c.read_port.new.into.number c.args.store.now.nets c.args.store.now.nets c.spread.new.nets
+    spread_as c.args.plan.now.roots c.as_slice-2.result.now _ c.roots_of_read-places.result.now _ c.view.result.number c.args.store.now.nets c.args.store.now.nets c.spread.new.nets
     c.as_slice-2.ensures c.roots_of_read-places.ensures
-    (ap (λ (u : BitValue). u.number) (c.read_port.ensures p.0 p.1)
+    (ap (λ (u : BitValue). u.number) (c.view.ensures ∙ c.read_port.ensures p.0 p.1)
     ∙ sym (read_at (digits_in c.args.store.now.nets) c.args.circuit.now.mems c.args.rows.now c.args.m c.args.n c.index-as_slice-m.result c.index-rows-m.result p.0 at rows p.1))
     refl c.spread.ensures.spread

@@ -1,7 +1,7 @@
 use Rattle.std.proofs.Common.{◌∙◌, ap, sym, arith, length, List}
 use Rattle.driver_check.proofs.Places.{read}
 use Rattle.sim_base.specs.BitValue.{BitValue}
-use Rattle.signal_words.specs.Values.{widths}
+use Rattle.sim_base.specs.Values.{widths}
 use Rattle.memory_cells.proofs.Fitting.{same_there}
 use Rattle.eval_commit.proofs.PortsOver.{long_as, over_all, over_length, over_old, over_put}
 use Rattle.eval_commit.proofs.ports.put_reads.Goals as goal

@@ -1,12 +1,19 @@
-use Rattle.std.proofs.Common.{◌∙◌, ap}
-use Rattle.sim_base.specs.BitValue.{digit_after_copy}
-use Rattle.eval_commit.proofs.Written.{put_widths, put_digits}
+use Rattle.std.proofs.Common.{◌≡◌, ◌∙◌, List, refl, ap}
+use Rattle.sim_base.specs.BitValue.{BitValue, bit_value, digit_after_copy}
+use Rattle.sim_base.specs.Values.{number_at, value_at, width_at, widths}
+use Rattle.sim_base.proofs.Held.{widths_kept}
+use Rattle.signal_words.specs.Values.{digits_in}
+use Rattle.eval_commit.proofs.Written.{put_digits, viewed}
 use Rattle.eval_commit.proofs.put.put.Goals as goal
 
 pub returns-clause-widths : goal.returns-clause-widths
-returns-clause-widths c = put_widths c.args.nets.now c.args.root.now.net c.at-net.result.now c.copy.new.self c.at-net.ensures.value c.copy.ensures.width
+returns-clause-widths c = ap widths c.copy.ensures.value ∙ widths_kept c.args.nets.now c.args.root.now.net (number_at c.copy.new.self c.args.root.now.net)
 
 pub returns-clause-digits : goal.returns-clause-digits
-returns-clause-digits c =
-    put_digits c.args.nets.now c.args.root.now c.at-net.result.now c.copy.new.self c.args.from.now.number c.at-net.ensures.value
-    (λ j. c.copy.ensures.bits j ∙ ap (λ n. digit_after_copy c.args.root.now.at c.args.from.now.number n c.args.root.now.width c.at-net.result.now.number j) c.offset_of.ensures)
+returns-clause-digits c x =
+    let old = c.args.nets.now in
+    let net = c.args.root.now.net in
+    let number = number_at c.copy.new.self net in
+    ap (λ (l : List BitValue). digits_in l x.0 x.1) c.copy.ensures.value
+    ∙ put_digits old c.args.root.now (value_at old net) (bit_value (width_at old net) number) c.args.from.now.number (viewed old net (value_at old net) c.requires.inside.0 refl)
+    (λ j. c.copy.ensures.bits j ∙ ap (λ n. digit_after_copy c.args.root.now.at c.args.from.now.number n c.args.root.now.width (number_at old net) j) c.offset_of.ensures) x

@@ -1,5 +1,5 @@
 use Rattle.std.proofs.Common.{◌≡◌}
-use Rattle.signal_words.specs.Values.{widths}
+use Rattle.sim_base.specs.Values.{widths}
 use Rattle.eval_commit.specs.Held.{IsSeeded}
 use Rattle.eval_commit.proofs.put.seed.Given as goal
 

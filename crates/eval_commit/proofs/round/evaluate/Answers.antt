@@ -1,5 +1,5 @@
 use Rattle.std.proofs.Common.{◌≡◌, ℕ, length, map, take, refl, ◌∙◌, ap, subst, arith}
-use Rattle.signal_words.specs.Values.{numbers, widths}
+use Rattle.sim_base.specs.Values.{numbers, widths}
 use Rattle.circuit.specs.Valuation.{digit_at}
 use Rattle.driver_check.specs.declared.parts.Node.TheVariants as node
 use Rattle.eval_commit.specs.Computed.{steps_of}

@@ -4,7 +4,7 @@ use Rattle.circuit.specs.State.{State}
 use Rattle.circuit.specs.Signal.{Digits}
 use Rattle.circuit.specs.Valuation.{IsValuation}
 use Rattle.signal_words.specs.Stores.{IsStoreOf}
-use Rattle.signal_words.specs.Values.{numbers, widths}
+use Rattle.sim_base.specs.Values.{numbers, widths}
 use Rattle.eval_commit.specs.Computed.{steps_of}
 use Rattle.eval_commit.specs.Round.{Holds, IsBlank}
 use Rattle.eval_commit.proofs.Meaning.{AreRight}

@@ -13,7 +13,6 @@ seed-requires-clause-inside c =
 
 pub seed-requires-clause-kept : goal.seed-requires-clause-kept
 seed-requires-clause-kept c i r at =
-    subst (λ (rs : List BitValue). HasKept (record { inputs = c.args.inputs.now; regs = rs; reads = c.as_slice-reads.result.now }) r) (sym c.as_slice-regs.ensures)
-    (subst (λ (os : List (List BitValue)). HasKept (record { inputs = c.args.inputs.now; regs = c.args.store.now.regs; reads = os }) r) (sym c.as_slice-reads.ensures)
+    subst (λ (os : List (List BitValue)). HasKept (record { inputs = c.args.inputs.now; regs = c.args.store.now.regs; reads = os }) r) (sym c.as_slice-reads.ensures)
     (has_kept c.requires.0 c.args.inputs.now c.args.store.now c.requires.2 c.requires.3 c.args.plan.now.roots c.requires.1 i r
-    (subst (λ (ds : List Drive). slice_get ds i ≡ Some r) c.as_slice.ensures at)))
+    (subst (λ (ds : List Drive). slice_get ds i ≡ Some r) c.as_slice.ensures at))

@@ -1,5 +1,5 @@
 use Rattle.std.proofs.Common.{◌≡◌, map, take}
-use Rattle.signal_words.specs.Values.{widths}
+use Rattle.sim_base.specs.Values.{widths}
 use Rattle.eval_commit.proofs.start.rooms_of.Given as goal
 
 abbrev pub invariant-loop-mem : goal.invariant-loop-mem

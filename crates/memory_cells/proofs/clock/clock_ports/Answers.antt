@@ -3,7 +3,8 @@ use Rattle.circuit.specs.Next.{next_reads, next_rows, next_stored}
 use Rattle.circuit.specs.Rounds.{parts}
 use Rattle.circuit.specs.State.{Stored}
 use Rattle.sim_base.specs.BitValue.{BitValue}
-use Rattle.signal_words.specs.Values.{digits_in, numbers}
+use Rattle.sim_base.specs.Values.{numbers}
+use Rattle.signal_words.specs.Values.{digits_in}
 use Rattle.memory_cells.specs.Ports.{stored}
 use Rattle.memory_cells.proofs.Parts.{kept_as, length-parts}
 use Rattle.memory_cells.proofs.Told.{same_lists}
@@ -19,13 +20,11 @@ pub returns-clause-stored : goal.returns-clause-stored
 returns-clause-stored c =
     let m = c.args.mem.now in
     let k = kept_as m c.rows.inside.size c.rows.inside.width c.rows.inside.rows.number c.args.rows.now c.rows.view_is c.requires.rows in
-    let b = digits_in c.as_slice-before.result.now in
-    let n = digits_in c.as_slice-now.result.now in
+    let b = digits_in c.args.before.now.nets in
+    let n = digits_in c.args.now.now.nets in
     let rows : parts c.rows.inside.width c.rows.inside.size c.clock_writes-written.new.rows.number ≡ next_rows b n m 0 c.args.rows.now.rows = k.same c.clock_writes-written.new.rows.number ∙ c.clock_writes-written.ensures.rows ∙ ap (next_rows b n m 0) k.rows in
     let reads : numbers c.clock_reads-read.new.outs ≡ next_reads b n m c.args.rows.now.rows m.reads (numbers c.args.outs.now) = c.clock_reads-read.ensures.outs ∙ ap (λ (xs : List ℕ). next_reads b n m xs m.reads (numbers c.args.outs.now)) k.rows in
     both _ _ _ _ rows reads
-    ∙ ap (λ (nets : List BitValue). next_stored (digits_in nets) n m (stored c.args.rows.now c.args.outs.now)) c.as_slice-before.ensures
-    ∙ ap (λ (nets : List BitValue). next_stored (digits_in c.args.before.now.nets) (digits_in nets) m (stored c.args.rows.now c.args.outs.now)) c.as_slice-now.ensures
   where
     both : (rows rows' reads reads' : List ℕ) → rows ≡ rows' → reads ≡ reads' → (let s : Stored = record { rows = rows; reads = reads } in s) ≡ record { rows = rows'; reads = reads' }
     both rows rows' reads reads' e f = ap (λ (xs : List ℕ). let s : Stored = record { rows = xs; reads = reads } in s) e ∙ ap (λ (xs : List ℕ). let s : Stored = record { rows = rows'; reads = xs } in s) f

@@ -1,7 +1,8 @@
 use Rattle.std.proofs.Common.{List, length, get_or, refl, sym, ◌∙◌, ap, arith}
 use Rattle.circuit.specs.Rounds.{parts}
 use Rattle.circuit.specs.declared.memory.ReadPort.{ReadPort}
-use Rattle.signal_words.specs.Values.{digits_in, numbers}
+use Rattle.sim_base.specs.Values.{numbers}
+use Rattle.signal_words.specs.Values.{digits_in}
 use Rattle.memory_cells.proofs.Told.{told_none}
 use Rattle.memory_cells.proofs.ReadAfter.{out_wide, outs_more, outs_whole, reads_none}
 use Rattle.memory_cells.proofs.read.clock_reads.Goals as goal

@@ -3,7 +3,7 @@ use Rattle.std.proofs.lemmas.Nat.{shr-shr}
 use Rattle.circuit.specs.Signal.{gathered, sig_number}
 use Rattle.sim_base.specs.BitValue.{BitValue, bit_value}
 use Rattle.signal_words.specs.Values.{digits_in}
-use Rattle.state_cells.proofs.Written.{placed_further, placed_whole}
+use Rattle.memory_cells.proofs.Placed.{placed_further, placed_whole}
 use Rattle.memory_cells.specs.Ports.{masked_digit}
 use Rattle.memory_cells.proofs.MaskedDigits.{PartOf, part_digit, masked_below}
 use Rattle.memory_cells.proofs.write.write_enabled.Goals as goal

@@ -1,7 +1,7 @@
 use Rattle.std.proofs.Common.{◌≡◌, ◌-◌, ◌/◌, ◌^◌, ◌<◌, ◌≤◌}
 use Rattle.circuit.specs.Signal.{gathered, sig_number}
 use Rattle.signal_words.specs.Values.{digits_in}
-use Rattle.state_cells.proofs.Written.{Placed}
+use Rattle.memory_cells.proofs.Placed.{Placed}
 use Rattle.memory_cells.specs.Ports.{masked_digit}
 use Rattle.memory_cells.proofs.write.write_enabled.Given as goal
 

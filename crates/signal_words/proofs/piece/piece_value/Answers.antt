@@ -8,6 +8,6 @@ use Rattle.signal_words.proofs.piece.piece_value.Goals as goal
 pub returns-then-width : goal.returns-then-width
 returns-then-width c =
     let digits = digits_in c.args.nets.now in
-    whole_net c.args.nets.now c.in-Part.net c.in-Part.at c.in-Part.width c.index-nets-net.result (subst (IsInside c.args.nets.now) c.in-Part.is c.requires) c.index-nets-net.is
-    (c.if-width.true ∙ c.width.ensures.value) (subst (λ w. c.index-nets-net.result.number < 2 ^ w) (sym (c.if-width.true ∙ c.width.ensures.value)) c.width.ensures.below)
+    whole_net c.args.nets.now c.in-Part.net c.in-Part.at c.in-Part.width c.view-value.result (subst (IsInside c.args.nets.now) c.in-Part.is c.requires) c.view-value.ensures
+    (c.if-width.true ∙ c.width.ensures.value) (subst (λ w. c.view-value.result.number < 2 ^ w) (sym (c.if-width.true ∙ c.width.ensures.value)) c.width.ensures.below)
     ∙ ap (λ p. bit_value (piece_width p) (piece_number digits p)) (sym c.in-Part.is)

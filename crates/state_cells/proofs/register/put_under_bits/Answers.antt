@@ -1,11 +1,41 @@
-use Rattle.std.proofs.Common.{◌≡◌, ◌≤◌, ◌+◌, ◌/◌, ◌^◌, ◌∙◌, cond, ap, arith}
+use Rattle.std.proofs.Common.{rules, ◌≡◌, ◌≤◌, ◌+◌, ◌/◌, ◌%◌, ◌^◌, ◌∙◌, cond, ap, sym, subst, arith}
+use Rattle.std.proofs.Math.Nat.{mod-eq_of_lt}
 use Rattle.std.proofs.lemmas.Nat.{shr-shr}
+use Rattle.circuit.specs.Next.{register_inputs, bit_by_bit}
 use Rattle.circuit.specs.Signal.{sig_number}
 use Rattle.sim_base.specs.BitValue.{BitValue}
+use Rattle.sim_base.specs.Values.{number_at, width_at}
+use Rattle.sim_base.proofs.Words.{copied_above}
+use Rattle.sim_base.proofs.Written.{all_copied, copied_nothing, copied_there, copied_width, more_bits}
 use Rattle.signal_words.specs.Values.{digits_in}
-use Rattle.state_cells.proofs.Written.{written_further, placed_whole}
 use Rattle.state_cells.proofs.Overlaid.{PartOf, part_digit, whole_below}
 use Rattle.state_cells.proofs.register.put_under_bits.Goals as goal
+
+pub loop-at-init : goal.loop-at-init
+loop-at-init c = record {
+  inside = omega arith;
+  input = search rules;
+  set = search rules;
+  clr = search rules;
+  copied = copied_nothing c.args.into.now c.args.out 0 _ 0;
+}
+
+pub view-requires : goal.view-requires
+view-requires c = copied_there _ _ _ _ _ _ _ _ c.loop-at.invariant.copied c.requires.there
+
+pub field-own-requires-clause-inside : goal.field-own-requires-clause-inside
+field-own-requires-clause-inside c =
+    let w = copied_width _ _ _ _ _ _ _ _ c.loop-at.invariant.copied in
+    let v = ap (λ (v : BitValue). v.width) c.view.ensures in
+    omega (arith, w, v, c.width-width.ensures.value, c.min-n.ensures, c.loop-at-test.true)
+
+pub put_field-changed-requires-clause-there : goal.put_field-changed-requires-clause-there
+put_field-changed-requires-clause-there c = copied_there _ _ _ _ _ _ _ _ c.loop-at.invariant.copied c.requires.there
+
+pub put_field-changed-requires-clause-inside : goal.put_field-changed-requires-clause-inside
+put_field-changed-requires-clause-inside c =
+    let w = copied_width _ _ _ _ _ _ _ _ c.loop-at.invariant.copied in
+    omega (arith, w, c.width-width.ensures.value, c.min-n.ensures, c.loop-at-test.true)
 
 pub loop-at-preserved : goal.loop-at-preserved
 loop-at-preserved c =
@@ -13,7 +43,7 @@ loop-at-preserved c =
     let set = sig_number (digits_in c.args.nets.now) c.args.reg.now.set in
     let input = sig_number (digits_in c.args.nets.now) c.args.reg.now.d in
     let inside : c.loop-at.at + c.min-n.result ≤ c.width-width.result = omega (arith, c.min-n.ensures, c.loop-at-test.true) in
-    let part : PartOf c.args.reg.now.pol.clr c.args.reg.now.pol.set c.args.from_input clr set input c.args.into.now.number c.loop-at.into.number c.loop-at.at c.min-n.result c.overlaid.result = record {
+    let part : PartOf c.args.reg.now.pol.clr c.args.reg.now.pol.set c.args.from_input clr set input (number_at c.args.into.now c.args.out) (number_at c.loop-at.into c.args.out) c.loop-at.at c.min-n.result c.overlaid.result = record {
       clr_left = c.loop-at.clr.number;
       set_left = c.loop-at.set.number;
       input_left = c.loop-at.input.number;
@@ -33,29 +63,28 @@ loop-at-preserved c =
       input_taken = c.take.ensures.word;
       clr_active = c.active_digits-clr_digits.ensures;
       set_active = c.active_digits-set_digits.ensures;
-      own_is = c.field-own.ensures;
+      own_is = c.field-own.ensures ∙ ap (λ (v : BitValue). v.number / 2 ^ c.loop-at.at % 2 ^ c.min-n.result) c.view.ensures;
       rest_is = c.input_or_own-rest.ensures;
       made = c.overlaid.ensures;
-      high = c.loop-at.invariant.written.placed.high;
+      high = λ i le. c.loop-at.invariant.copied.bits i ∙ copied_above 0 _ 0 c.loop-at.at (number_at c.args.into.now c.args.out) i (omega (arith, le));
     } in
     record {
       inside = inside;
-      width = c.put_part-changed.ensures.width ∙ c.loop-at.invariant.width;
-      below = c.put_part-changed.ensures.below;
       input = ap (λ (v : BitValue). v.number) c.take.ensures.rest ∙ ap (λ m. m / 2 ^ c.min-n.result) c.loop-at.invariant.input ∙ shr-shr _ c.loop-at.at c.min-n.result;
       set = ap (λ (v : BitValue). v.number) c.take-in-loop-at.ensures.rest ∙ ap (λ m. m / 2 ^ c.min-n.result) c.loop-at.invariant.set ∙ shr-shr _ c.loop-at.at c.min-n.result;
       clr = ap (λ (v : BitValue). v.number) c.take-in-loop-at-2.ensures.rest ∙ ap (λ m. m / 2 ^ c.min-n.result) c.loop-at.invariant.clr ∙ shr-shr _ c.loop-at.at c.min-n.result;
-      written = written_further _ _ c.loop-at.at c.min-n.result c.overlaid.result _ _ c.loop-at.changed _ c.loop-at.invariant.written c.put_part-changed.ensures.bits c.put_part-changed.ensures.changed
-          (λ j lt. part_digit c.args.reg.now.pol.clr c.args.reg.now.pol.set c.args.from_input clr set input c.args.into.now.number c.loop-at.into.number c.loop-at.at c.min-n.result c.overlaid.result c.args.reg.now.width j part (omega (arith, inside, c.requires.width, c.width-width.ensures.value)) lt);
+      copied = more_bits _ _ _ _ _ _ _ c.overlaid.result _ _ c.loop-at.invariant.copied
+          (record { value = c.put_field-changed.ensures.value; bits = c.put_field-changed.ensures.bits; changed = c.put_field-changed.ensures.changed })
+          (λ j lt. part_digit c.args.reg.now.pol.clr c.args.reg.now.pol.set c.args.from_input clr set input (number_at c.args.into.now c.args.out) (number_at c.loop-at.into c.args.out) c.loop-at.at c.min-n.result c.overlaid.result c.args.reg.now.width j part (omega (arith, inside, c.requires.width, c.width-width.ensures.value)) lt);
     }
 
-pub returns-clause-value : goal.returns-clause-value
-returns-clause-value c = λ before.
+pub returns : goal.returns
+returns c before =
     let clr = sig_number (digits_in c.args.nets.now) c.args.reg.now.clr in
     let set = sig_number (digits_in c.args.nets.now) c.args.reg.now.set in
     let input = sig_number (digits_in c.args.nets.now) c.args.reg.now.d in
     let width : c.width-width.result ≡ c.args.reg.now.width = c.width-width.ensures.value ∙ c.requires.width in
-    placed_whole c.loop-at.into _ c.args.into.now.number c.args.reg.now.width c.loop-at.at
-    (c.loop-at.invariant.width ∙ width) c.loop-at.invariant.below
-    (whole_below c.args.reg.now.pol.clr c.args.reg.now.pol.set clr set (cond c.args.from_input input c.args.into.now.number) c.args.reg.now.width)
-    (omega (arith, c.loop-at-test.false, width)) c.loop-at.invariant.written.placed
+    let end : c.loop-at.at ≡ c.args.reg.now.width = omega (arith, c.loop-at-test.false, width, c.loop-at.invariant.inside) in
+    let target = bit_by_bit c.args.reg.now.width (register_inputs (digits_in c.args.nets.now) (digits_in c.args.nets.now) c.args.reg.now) (cond c.args.from_input input (number_at c.args.into.now c.args.out)) in
+    all_copied c.args.into.now c.loop-at.into c.args.out target c.loop-at.at target c.loop-at.changed c.loop-at.invariant.copied (end ∙ sym c.requires.width) c.width-width.ensures.below
+    (sym (ap (λ k. target % 2 ^ k) end ∙ mod-eq_of_lt (whole_below c.args.reg.now.pol.clr c.args.reg.now.pol.set clr set (cond c.args.from_input input (number_at c.args.into.now c.args.out)) c.args.reg.now.width)))

@@ -1,5 +1,5 @@
 use Rattle.std.proofs.Common.{◌∙◌, ap, Bool}
-use Rattle.signal_words.specs.Values.{numbers}
+use Rattle.sim_base.specs.Values.{numbers}
 use Rattle.eval_commit.proofs.Machines.{gets_stuck, goes_on, shown, stays_stuck}
 use Rattle.eval_commit.proofs.machine.Machine.settle.Goals.{in-No, in_default}
 use Rattle.eval_commit.proofs.machine.Machine.settle.Goals as goal

@@ -1,3 +1,5 @@
+use Rattle.std.proofs.Common.{◌∙◌, ap, map}
+use Rattle.circuit.specs.declared.register.Reg.{Reg}
 use Rattle.eval_commit.specs.declared.step.Rounds.{Rounds}
 use Rattle.eval_commit.proofs.Standing.{AreFirst, first_rounds, first_state}
 use Rattle.eval_commit.proofs.step.Rounds.new.Goals as goal
@@ -16,7 +18,7 @@ made c = record {
 
 first : (c : goal.In_ok-start_fired) → AreFirst c.args.circuit.now (made c)
 first c = record {
-  regs = c.in_ok-start_regs.ensures;
+  regs = c.in_ok-start_regs.ensures ∙ ap (map (λ (r : Reg). r.init)) c.as_slice.ensures;
   rows = c.in_ok-start_rows.ensures;
   ports = c.in_ok-start_ports.ensures;
   before = c.in_ok-new.ensures;

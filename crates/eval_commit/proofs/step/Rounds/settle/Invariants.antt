@@ -1,5 +1,5 @@
 use Rattle.std.proofs.Common.{◌≡◌, ◌+◌, ◌*◌, length}
-use Rattle.signal_words.specs.Values.{numbers}
+use Rattle.sim_base.specs.Values.{numbers}
 use Rattle.eval_commit.specs.Rounds.{AreRoundsOf, state_of}
 use Rattle.eval_commit.proofs.Settling.{IsLeft}
 use Rattle.eval_commit.proofs.step.Rounds.settle.Given as goal

@@ -4,7 +4,7 @@ use Rattle.std.proofs.lemmas.Grind.{same_number_lists}
 use Rattle.std.proofs.lemmas.List.{length-map}
 use Rattle.sim_base.specs.BitValue.{BitValue}
 use Rattle.circuit.specs.declared.memory.ReadPort.{ReadPort}
-use Rattle.signal_words.specs.Values.{width_at, widths}
+use Rattle.sim_base.specs.Values.{width_at, widths}
 use Rattle.signal_words.proofs.Signals.{width_read}
 use Rattle.state_cells.proofs.Fitting.{eq_from}
 use Rattle.memory_cells.proofs.ReadAfter.{same_width_at}

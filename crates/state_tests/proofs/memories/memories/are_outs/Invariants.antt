@@ -1,5 +1,5 @@
 use Rattle.std.proofs.Common.{◌≡◌, ◌<◌, ℕ, length, get_or, true}
-use Rattle.signal_words.specs.Values.{widths}
+use Rattle.sim_base.specs.Values.{widths}
 use Rattle.state_tests.proofs.memories.memories.are_outs.Given as goal
 
 abbrev pub invariant-loop-out : goal.invariant-loop-out

@@ -1,6 +1,5 @@
-use Rattle.std.proofs.Common.{◌≡◌, ◌∙◌}
 use Rattle.state_tests.proofs.StoresWritten.{net_written}
 use Rattle.state_tests.proofs.memories.parts.set_net.Goals as goal
 
 pub returns-then-net-len : goal.returns-then-net-len
-returns-then-net-len c = λ k is. net_written k c.args.store.now c.args.net c.at.result.now c.put_number.new.bits c.at.ensures.value c.put_number.ensures is
+returns-then-net-len c k is = net_written k c.args.store.now c.args.net _ c.put_field.new.self c.put_field.ensures.value is

@@ -1,5 +1,5 @@
 use Rattle.signal_words.specs.Stores.{IsStoreOf}
 use Rattle.state_tests.proofs.memories.parts.store_of.Given as goal
 
-abbrev pub invariant-loop-net : goal.invariant-loop-net
-invariant-loop-net l = IsStoreOf l.circuit l.store
+abbrev pub invariant-loop-number : goal.invariant-loop-number
+invariant-loop-number l = IsStoreOf l.circuit l.store

@@ -1,0 +1,258 @@
+//! The values of many parts of a circuit in one array of words.
+ghost use Rattle.std.specs.Prelude.{◌≡◌, ℕ, ◌+◌, ◌-◌, ◌*◌, ◌/◌, ◌%◌, ◌^◌, ◌<◌, ◌≤◌, ◌==◌, not, length, map, slice_get, slice_index, slice_set, Some, IfOk};
+ghost use Rattle.std.specs.Int.{bit_at};
+ghost use Rattle.sim_base.specs.BitValue.{BitValue, bit_value, digit_after_copy, zeros};
+ghost use Rattle.sim_base.specs.Values.{IsPut, number_at, width_at, widths, with_number, words_of};
+
+use crate::bits::{Bits, merged};
+use crate::memory::NoMemory;
+use crate::view::BitsView;
+use std::alloc::Global;
+use std::marker::Model;
+
+/// Values of bits, which contracts see as the list of them. All stand in one array of words, so that a value of at most
+/// 64 bits takes 16 bytes.
+#[derive(Debug, Drop)]
+pub struct Values {
+    /// The words of all values, one value after another, the least word of each first. Each has one word at least.
+    words: Vec<u64>,
+    widths: Vec<u32>,
+    /// For each value the place of its first word.
+    places: Vec<u32>,
+}
+
+impl Model for Values {
+    ghost use Rattle.std.specs.Prelude.{List};
+    ghost use Rattle.sim_base.specs.BitValue.{BitValue};
+    ghost use Rattle.sim_base.specs.Values.{values_of, IsLaidOut};
+
+    ghost Value = { List BitValue };
+
+    ghost view = { λ v. values_of v.widths.items v.words.items };
+
+    ghost invariant = { λ v. IsLaidOut v.words.items v.widths.items v.places.items };
+}
+
+impl Values {
+    /// Zeros of these widths. It is no memory, too, where all together have 2^32 words.
+    pub fn new(alloc: Global, widths: &[u32]) -> Result<Values, NoMemory>
+        ensures { IfOk result (λ values. values ≡ map zeros widths.now) }
+    {
+        let mut places = Vec::with_capacity(alloc, widths.len())?;
+        let mut room = 0u32;
+        for width in widths {
+            places.push(room)?;
+            let Some(next) = room.checked_add(words_of(*width)) else {
+                return Err(NoMemory);
+            };
+            room = next;
+        }
+        let words = vec![in alloc; 0u64; room as usize]?;
+        let widths = Vec::from_slice(alloc, widths)?;
+        Ok(Values {
+            words,
+            widths,
+            places,
+        })
+    }
+
+    /// These values.
+    pub fn of(alloc: Global, values: &[Bits]) -> Result<Values, NoMemory>
+        ensures { IfOk result (λ all. all ≡ values.now) }
+    {
+        let mut all = zeros_like(alloc, values)?;
+        let _ = all.len();
+        for (n, value) in values.iter().enumerate() {
+            all.put(n as u32, &value.view());
+        }
+        Ok(all)
+    }
+
+    /// How many values there are.
+    pub fn len(&self) -> usize
+        ensures value { result ≡ length self.now }
+        ensures few { length self.now < 2 ^ 32 }
+    {
+        let _ = &self.words;
+        self.widths.len()
+    }
+
+    /// The width of the value at a place, in bits.
+    #[inline(always)]
+    pub fn width(&self, n: u32) -> u32
+        requires { n < length self.now }
+        ensures value { result ≡ width_at self.now n }
+        ensures below { number_at self.now n < 2 ^ width_at self.now n }
+    {
+        let _ = &self.words;
+        self.widths[n as usize]
+    }
+
+    /// The number of the value at a place, of at most 64 bits.
+    #[inline(always)]
+    pub fn word(&self, n: u32) -> u64
+        requires there { n < length self.now }
+        requires small { width_at self.now n ≤ 64 }
+        ensures { result ≡ number_at self.now n }
+    {
+        self.words[self.places[n as usize] as usize]
+    }
+
+    /// The value at a place.
+    #[inline(always)]
+    pub fn view(&self, n: u32) -> BitsView<'_>
+        requires { n < length self.now }
+        ensures { result ≡ bit_value (width_at self.now n) (number_at self.now n) }
+    {
+        let start = self.places[n as usize] as usize;
+        let width = self.widths[n as usize];
+        let len = (width as usize + 63) / 64;
+        BitsView {
+            words: &self.words[start..start + len],
+            width,
+        }
+    }
+
+    /// Gives the value at a place, of at most 64 bits, another number, and tells whether it changed.
+    #[inline(always)]
+    pub fn put_word(&mut self, n: u32, v: u64) -> bool
+        requires there { n < length self.old }
+        requires small { width_at self.old n ≤ 64 }
+        requires below { v < 2 ^ width_at self.old n }
+        ensures { IsPut n v self.old self.new result }
+    {
+        let place = self.places[n as usize] as usize;
+        store(&mut self.words, place, v)
+    }
+
+    /// Writes the lowest `k` digits of `v`, at most 64, to the bits from `at` on of the value at a place, and tells
+    /// whether it changed.
+    pub fn put_field(&mut self, n: u32, at: u32, k: u32, v: u64) -> bool
+        requires there { n < length self.old }
+        requires small { k ≤ 64 }
+        requires inside { at + k ≤ width_at self.old n }
+        ensures value { self.new ≡ with_number self.old n (number_at self.new n) }
+        ensures bits { (j : ℕ) → bit_at (number_at self.new n) j ≡ digit_after_copy at v 0 k (number_at self.old n) j }
+        ensures changed { result ≡ not (number_at self.new n == number_at self.old n) }
+    {
+        let _ = self.width(n);
+        if k == 0 {
+            return false;
+        }
+        let first = k.min(64 - at % 64);
+        let changed = self.put_digits(n, at, first, v);
+        if first < k {
+            let more = self.put_digits(n, at + first, k - first, v >> first);
+            changed | more
+        } else {
+            changed
+        }
+    }
+
+    /// The same for digits of one word.
+    fn put_digits(&mut self, n: u32, at: u32, k: u32, v: u64) -> bool
+        requires there { n < length self.old }
+        requires some { 0 < k }
+        requires small { at % 64 + k ≤ 64 }
+        requires inside { at + k ≤ width_at self.old n }
+        ensures value { self.new ≡ with_number self.old n (number_at self.new n) }
+        ensures bits { (j : ℕ) → bit_at (number_at self.new n) j ≡ digit_after_copy at v 0 k (number_at self.old n) j }
+        ensures changed { result ≡ not (number_at self.new n == number_at self.old n) }
+    {
+        let place = self.places[n as usize] as usize + (at / 64) as usize;
+        let word = merged(self.words[place], at % 64, k, v);
+        store(&mut self.words, place, word)
+    }
+
+    /// Makes `word` the one at this place of the words of 64 bits of a value: the bits from `64 * place` on. It tells
+    /// whether the value changed.
+    #[inline(always)]
+    pub fn put_word_at(&mut self, n: u32, place: u32, word: u64) -> bool
+        requires there { n < length self.old }
+        requires inside { 64 * place < width_at self.old n }
+        requires below { word < 2 ^ (width_at self.old n - 64 * place) }
+        ensures value { self.new ≡ with_number self.old n (number_at self.new n) }
+        ensures bits { (j : ℕ) → bit_at (number_at self.new n) j ≡ digit_after_copy (64 * place) word 0 64 (number_at self.old n) j }
+        ensures changed { result ≡ not (number_at self.new n == number_at self.old n) }
+    {
+        let at = self.places[n as usize] as usize + place as usize;
+        store(&mut self.words, at, word)
+    }
+
+    /// Copies `k` bits of `from`, beginning with its bit `from_at`, to the bits from `at` on of the value at a place,
+    /// and tells whether it changed.
+    pub fn copy(&mut self, n: u32, at: u32, from: &BitsView, from_at: u32, k: u32) -> bool
+        requires there { n < length self.old }
+        requires inside { at + k ≤ width_at self.old n }
+        requires from_inside { from_at + k ≤ from.now.width }
+        ensures value { self.new ≡ with_number self.old n (number_at self.new n) }
+        ensures bits { (j : ℕ) → bit_at (number_at self.new n) j ≡ digit_after_copy at from.now.number from_at k (number_at self.old n) j }
+        ensures changed { result ≡ not (number_at self.new n == number_at self.old n) }
+    {
+        let _ = self.width(n);
+        let _ = from.width();
+        let mut changed = false;
+        let mut done = 0u32;
+        while done < k {
+            let part = (k - done).min(64);
+            let v = from.field(from_at + done, part);
+            let more = self.put_field(n, at + done, part, v);
+            changed |= more;
+            done += part;
+        }
+        changed
+    }
+
+    /// Gives the value at a place the number of another value of its width, and tells whether it changed.
+    pub fn put(&mut self, n: u32, from: &BitsView) -> bool
+        requires there { n < length self.old }
+        requires width { from.now.width ≡ width_at self.old n }
+        ensures { IsPut n from.now.number self.old self.new result }
+    {
+        let width = from.width();
+        let _ = self.width(n);
+        self.copy(n, 0, from, 0, width)
+    }
+
+    /// Gives each value the number of the one at its place in another list of the same widths.
+    pub fn copy_all(&mut self, from: &Values)
+        requires { widths self.old ≡ widths from.now }
+        ensures { self.new ≡ from.now }
+    {
+        let _ = &self.widths;
+        let _ = &self.places;
+        let _ = &from.widths;
+        let _ = &from.places;
+        self.words.copy_from_slice(from.words.as_slice());
+    }
+}
+
+/// Zeros of the widths of these values.
+fn zeros_like(alloc: Global, values: &[Bits]) -> Result<Values, NoMemory>
+    ensures { IfOk result (λ all. all ≡ map zeros (widths values.now)) }
+{
+    let mut widths = Vec::new(alloc);
+    for value in values {
+        widths.push(value.width())?;
+    }
+    Values::new(alloc, widths.as_slice())
+}
+
+/// How many words a value of this width takes.
+fn words_of(width: u32) -> u32
+    ensures { result ≡ words_of width }
+{
+    width.saturating_sub(1) / 64 + 1
+}
+
+/// Writes a word, and tells whether it was another.
+#[inline(always)]
+fn store(words: &mut Vec<u64>, place: usize, v: u64) -> bool
+    requires { place < length words.old.items }
+    ensures items { words.new.items ≡ slice_set words.old.items place v }
+    ensures changed { (old : ℕ) → slice_index words.old.items place ≡ old → result ≡ not (old == v) }
+{
+    let old = words[place];
+    words[place] = v;
+    old != v
+}
