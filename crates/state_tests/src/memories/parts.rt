@@ -1,5 +1,6 @@
 //! Circuits with one memory, and stores of them.
-ghost use Rattle.std.specs.Prelude.{◌≡◌, ◌<◌, IfOk, true};
+ghost use Rattle.std.specs.Prelude.{◌≡◌, ◌+◌, ◌<◌, ◌≤◌, IfOk, length, true};
+ghost use Rattle.sim_base.specs.Values.{width_at};
 ghost use Rattle.circuit.specs.Valid.{is_valid};
 ghost use Rattle.circuit.specs.declared.netlist.Circuit.{Circuit};
 ghost use Rattle.signal_words.specs.Stores.{IsStoreOf};
@@ -61,13 +62,23 @@ pub fn circuit_of(alloc: Global, widths: &[u32], mem: Mem) -> Result<Circuit, No
     })
 }
 
+/// Writes digits to the bits of a net from bit `at` on.
+fn put_bits(store: &mut Store, net: u32, at: u32, n: u32, v: u64)
+    requires there { net < length store.old.nets }
+    requires small { n ≤ 64 }
+    requires inside { at + n ≤ width_at store.old.nets net }
+    ensures { (c : Circuit) → IsStoreOf c store.old → IsStoreOf c store.new }
+{
+    store.nets.put_field(net, at, n, v);
+}
+
 /// Writes the lowest 64 bits of a net.
 pub fn set_net(store: &mut Store, net: u32, number: u64)
     ensures { (c : Circuit) → IsStoreOf c store.old → IsStoreOf c store.new }
 {
     if (net as usize) < store.nets.len() {
         let width = store.nets.width(net);
-        store.nets.put_field(net, 0, width.min(64), number);
+        put_bits(store, net, 0, width.min(64), number);
     }
 }
 
@@ -75,8 +86,10 @@ pub fn set_net(store: &mut Store, net: u32, number: u64)
 pub fn put_bit(store: &mut Store, net: u32, i: u32, bit: bool)
     ensures { (c : Circuit) → IsStoreOf c store.old → IsStoreOf c store.new }
 {
-    if (net as usize) < store.nets.len() && i < store.nets.width(net) {
-        store.nets.put_field(net, i, 1, u64::from(bit));
+    if (net as usize) < store.nets.len() {
+        if i < store.nets.width(net) {
+            put_bits(store, net, i, 1, u64::from(bit));
+        }
     }
 }
 

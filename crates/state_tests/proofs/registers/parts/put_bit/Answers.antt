@@ -1,5 +1,0 @@
-use Rattle.state_tests.proofs.StoresWritten.{net_written}
-use Rattle.state_tests.proofs.registers.parts.put_bit.Goals as goal
-
-pub returns : goal.returns
-returns c k is = ?
