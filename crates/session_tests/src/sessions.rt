@@ -16,166 +16,13 @@ use solo_session::{Session, law_of_pace};
 use std::alloc::Global;
 use std::process::Abort;
 use std::test::Fail;
-
-/// A counter of 8 bits.
-const COUNTER: &[u8] = br"module \counter
-wire input 1 \clk
-wire width 8 output 2 \q
-wire width 8 $n
-cell $add $a
-parameter \A_WIDTH 8
-parameter \B_WIDTH 1
-parameter \Y_WIDTH 8
-connect \A \q
-connect \B 1'1
-connect \Y $n
-end
-cell $dff $r
-parameter \CLK_POLARITY 1'1
-parameter \WIDTH 8
-connect \CLK \clk
-connect \D $n
-connect \Q \q
-end
-end
-";
-
-/// `t` and `b` clock each other by their parity: once `clk` is 1, one of them changes in each round.
-const RING: &[u8] = br"module \ring
-wire input 1 \clk
-wire \t
-wire \b
-wire $p
-wire $o
-wire $t
-wire $b
-cell $add $ap
-parameter \A_WIDTH 1
-parameter \B_WIDTH 1
-parameter \Y_WIDTH 1
-connect \A \t
-connect \B \b
-connect \Y $p
-end
-cell $add $ao
-parameter \A_WIDTH 1
-parameter \B_WIDTH 1
-parameter \Y_WIDTH 1
-connect \A $p
-connect \B \clk
-connect \Y $o
-end
-cell $add $at
-parameter \A_WIDTH 1
-parameter \B_WIDTH 1
-parameter \Y_WIDTH 1
-connect \A \t
-connect \B 1'1
-connect \Y $t
-end
-cell $add $ab
-parameter \A_WIDTH 1
-parameter \B_WIDTH 1
-parameter \Y_WIDTH 1
-connect \A \b
-connect \B 1'1
-connect \Y $b
-end
-cell $dff $rt
-parameter \CLK_POLARITY 1'1
-parameter \WIDTH 1
-connect \CLK $o
-connect \D $t
-connect \Q \t
-end
-cell $dff $rb
-parameter \CLK_POLARITY 1'1
-parameter \WIDTH 1
-connect \CLK $p
-connect \D $b
-connect \Q \b
-end
-end
-";
-
-/// Six samples, 5 nanoseconds apart.
-const SIX: &[u8] = b"stimulus 0
-inputs clk
-block 3 0.00000001
-0.0 0
-0.000000005 1
-end
-";
-
-const MANY: &[u8] = b"stimulus 0
-inputs clk
-block 256 0.00000001
-0.0 0
-0.000000005 1
-end
-";
-
-const HIGH_FIRST: &[u8] = b"stimulus 0
-inputs clk
-block 1 1.0
-0.0 1
-0.5 0
-end
-";
-
-const GREETING: &str = r#"{"type":"greeting","version":0}"#;
-
-const STATUS: &str = r#"{"type":"command","command":"get_simulation_status"}"#;
-
-const RUN: &str = r#"{"type":"command","command":"run_simulation"}"#;
-
-const RUN_UNTIL_15: &str =
-    r#"{"type":"command","command":"run_simulation","until_time":"0.000000015"}"#;
-
-const GREETED: &str =
-    r#"{"commands":["list_scopes","list_items","reference_items","query_interval","get_simulation_status","run_simulation","pause_simulation"],"events":["simulation_paused","simulation_finished"],"features":{"item_values_encoding":["base64(u32)"]},"type":"greeting","version":0}"#;
-
-const RUNS: &str = r#"{"command":"run_simulation","type":"response"}"#;
-
-const PAUSED_AT_15: &str =
-    r#"{"cause":"until_time","event":"simulation_paused","time":"0.000000015000000","type":"event"}"#;
-
-const NO_JSON: &str =
-    r#"{"error":"invalid_json","message":"the packet is not JSON","type":"error"}"#;
-
-const VERSION_1: &str = r#"{"type":"greeting","version":1}"#;
-
-const WRONG_VERSION: &str =
-    r#"{"error":"invalid_version","message":"the version is not 0","type":"error"}"#;
-
-const GREETED_AGAIN: &str =
-    r#"{"error":"already_greeted","message":"the greeting was already received","type":"error"}"#;
-
-const UNKNOWN: &str =
-    r#"{"error":"invalid_command","message":"the command is unknown","type":"error"}"#;
-
-const SCOPES: &str = r#"{"type":"command","command":"list_scopes"}"#;
-
-const NOT_GREETED: &str =
-    r#"{"error":"not_greeted","message":"no greeting was received","type":"error"}"#;
-
-const STANDS_AT_0: &str =
-    r#"{"command":"get_simulation_status","latest_time":"0.000000000000000","next_sample_time":"0.000000005000000","status":"paused","type":"response"}"#;
-
-const STANDS_AT_15: &str =
-    r#"{"command":"get_simulation_status","latest_time":"0.000000015000000","next_sample_time":"0.000000020000000","status":"paused","type":"response"}"#;
-
-const RUNNING: &str =
-    r#"{"command":"get_simulation_status","latest_time":"0.000001280000000","next_sample_time":"0.000001285000000","status":"running","type":"response"}"#;
-
-const FINISHED: &str =
-    r#"{"event":"simulation_finished","time":"0.000002555000000","type":"event"}"#;
-
-const FINISHED_AT_0: &str =
-    r#"{"event":"simulation_finished","time":"0.000000000000000","type":"event"}"#;
-
-const TOO_LONG: &str =
-    r#"{"error":"packet_too_long","message":"the packet is too long","type":"error"}"#;
+use test_designs::designs::{COUNTER, RING};
+use test_designs::packets::{GREETING, RUN, RUN_UNTIL_15, SCOPES, STATUS, VERSION_1};
+use test_designs::replies::{
+    FINISHED, FINISHED_AT_0, GREETED, GREETED_AGAIN, NO_JSON, NOT_GREETED, PAUSED_AT_15, RUNNING,
+    RUNS, STANDS_AT_0, STANDS_AT_15, TOO_LONG, UNKNOWN, WRONG_VERSION,
+};
+use test_designs::stimuli::{HIGH_FIRST, MANY, SIX};
 
 const NO_PACKET: [&str; 4] = ["record 1", "open 0", "close 0 ended", "end"];
 
@@ -202,8 +49,8 @@ struct Row<'a> {
 /// A circuit and its samples.
 #[derive(Clone, Copy)]
 struct Case<'a> {
-    design: &'a [u8],
-    stimulus: &'a [u8],
+    design: &'a str,
+    stimulus: &'a str,
 }
 
 #[derive(Drop)]
@@ -223,9 +70,9 @@ fn joined(alloc: Global, texts: &[&str], end: u8) -> Result<Vec<u8>, NoMemory> {
 }
 
 fn run(alloc: Global, case: &Case) -> Result<FlatRun, FlatFault> {
-    let module = read_module(alloc, case.design)?;
+    let module = read_module(alloc, case.design.as_bytes())?;
     let circuit = elaborate(alloc, &module)?;
-    let stimulus = read_stimulus(alloc, case.stimulus, &circuit)?;
+    let stimulus = read_stimulus(alloc, case.stimulus.as_bytes(), &circuit)?;
     Ok(FlatRun::new(alloc, circuit, stimulus)?)
 }
 
