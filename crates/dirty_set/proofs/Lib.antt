@@ -1,0 +1,5 @@
+pub mod Summed
+pub mod Descent
+pub mod Leaves
+pub mod Empty
+pub mod Taken
