@@ -1,0 +1,4 @@
+pub mod Slots
+pub mod Upto
+pub mod Counted
+pub mod Grown

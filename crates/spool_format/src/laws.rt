@@ -1,0 +1,40 @@
+//! Laws of records. A function here does nothing: its contract is the law.
+ghost use Rattle.std.specs.Prelude.{◌≡◌, ◌≢◌, ◌%◌, ◌++◌, ◌∷◌, [], List, length, ℕ};
+ghost use Rattle.spool_format.specs.declared.sample.Sample.{Sample};
+ghost use Rattle.spool_format.specs.Records.{IsNext, Records, change_record, changed_slots, chunk_words, whole_record};
+ghost use Rattle.spool_format.specs.Worked.{counter, sample_of};
+
+/// No words record no samples.
+#[tactic(auto, using(crate::proofs::Grown::no_samples))]
+pub fn law_of_no_samples()
+    ensures { (widths : List ℕ) → Records widths [] [] }
+{}
+
+/// Where the samples so far are whole chunks, the whole record of the next one goes on with the recording.
+pub fn law_of_chunks()
+    ensures { (widths words : List ℕ) → (samples : List Sample) → (s : Sample) → Records widths words samples → IsNext widths samples s
+        → length samples % 256 ≡ 0 → Records widths (words ++ whole_record s) (samples ++ s ∷ []) }
+{}
+
+/// Where they are not, the record of what changed from the last one to the next does.
+pub fn law_of_changes()
+    ensures { (widths words : List ℕ) → (samples : List Sample) → (before s : Sample) → Records widths words (samples ++ before ∷ [])
+        → IsNext widths (samples ++ before ∷ []) s → length (samples ++ before ∷ []) % 256 ≢ 0
+        → Records widths (words ++ change_record widths before s) (samples ++ before ∷ s ∷ []) }
+{}
+
+/// A clock and a counter over four samples, and slots of many widths: the third of them goes back to what it was two
+/// samples before, and the second, of no bits, never changes.
+pub fn worked_records()
+    ensures counter { chunk_words (1 ∷ 8 ∷ []) counter ≡
+        0 ∷ 0 ∷ 0 ∷ 0 ∷ 0 ∷ 0 ∷
+        1 ∷ 0x4C4B40 ∷ 0 ∷ 0 ∷ 2 ∷ 0 ∷ 1 ∷ 1 ∷ 1 ∷
+        1 ∷ 0x989680 ∷ 0 ∷ 0 ∷ 1 ∷ 0 ∷ 0 ∷
+        1 ∷ 0xE4E1C0 ∷ 0 ∷ 0 ∷ 2 ∷ 0 ∷ 1 ∷ 1 ∷ 2 ∷ [] }
+    ensures widths { chunk_words (33 ∷ 0 ∷ 1 ∷ 64 ∷ [])
+        (sample_of 0 0 (5 ∷ 1 ∷ 0 ∷ 7 ∷ 8 ∷ []) ∷ sample_of 1 0x3_0000_0002_0000_0001 (5 ∷ 1 ∷ 1 ∷ 7 ∷ 9 ∷ []) ∷ sample_of 2 0x3_0000_0002_0000_0002 (5 ∷ 0 ∷ 0 ∷ 7 ∷ 9 ∷ []) ∷ []) ≡
+        0 ∷ 0 ∷ 0 ∷ 0 ∷ 5 ∷ 1 ∷ 0 ∷ 7 ∷ 8 ∷
+        1 ∷ 1 ∷ 2 ∷ 3 ∷ 2 ∷ 2 ∷ 1 ∷ 3 ∷ 7 ∷ 9 ∷
+        1 ∷ 2 ∷ 2 ∷ 3 ∷ 2 ∷ 0 ∷ 5 ∷ 0 ∷ 2 ∷ 0 ∷ [] }
+    ensures same { changed_slots (33 ∷ 0 ∷ 1 ∷ []) (5 ∷ 1 ∷ 1 ∷ []) (5 ∷ 1 ∷ 1 ∷ []) ≡ [] }
+{}

@@ -1,0 +1,50 @@
+//! Samples of a recording.
+ghost use Rattle.std.specs.Prelude.{◌≡◌, length};
+
+use sim_base::Time;
+use std::marker::Model;
+
+/// Words of 32 bits, which a contract sees as their list.
+#[derive(Debug, Drop)]
+pub struct Words {
+    items: Vec<u32>,
+}
+
+impl Model for Words {
+    ghost use Rattle.std.specs.Prelude.{List, ℕ};
+
+    ghost Value = { List ℕ };
+
+    ghost view = { λ w. w.items.items };
+}
+
+impl Words {
+    /// Takes the words over.
+    pub fn new(items: Vec<u32>) -> Words
+        ensures { result ≡ items.items }
+    {
+        Words { items }
+    }
+
+    pub fn as_slice(&self) -> &[u32]
+        ensures { result.now ≡ self.now }
+    {
+        self.items.as_slice()
+    }
+
+    /// Gives the words back, without a copy.
+    pub fn into_vec(self) -> Vec<u32>
+        ensures { result.items ≡ self }
+    {
+        self.items
+    }
+}
+
+/// What the slots of a recording showed at one time: the words of each slot in turn, the least first. `number` is the
+/// sample's place in the run, from 0 on.
+#[derive(Debug, Drop)]
+pub struct Sample {
+    pub number: u64,
+    pub time: Time,
+    pub words: Words,
+}

@@ -1,0 +1,201 @@
+//! Writing records.
+ghost use Rattle.std.specs.Prelude.{◌≡◌, ◌-◌, ◌^◌, ◌≤◌, ◌++◌, ◌∷◌, ◌<◌, true, if◌then◌else◌, IfOk, is_ok, length, take};
+ghost use Rattle.std.specs.Str.{bytes_eq};
+ghost use Rattle.sim_base.specs.Shape.{words_of_widths};
+ghost use Rattle.spool_format.specs.Records.{change_record, changed_among, changed_slots, place_of, slots_with_words, time_words, whole_record};
+
+use crate::sample::Sample;
+use sim_base::{NoMemory, Shape, Time};
+
+/// How many values a word has.
+const WORD: u128 = 1 << 32;
+
+/// How many values two words have.
+const TWO_WORDS: u128 = 1 << 64;
+
+/// How many slots are compared at once.
+const BLOCK: usize = 64;
+
+/// Appends the whole record of a sample. Where memory is wanting, the words are as before.
+pub fn write_whole(shape: &Shape, s: &Sample, into: &mut Vec<u32>) -> Result<(), NoMemory>
+    requires { length s.now.words ≡ words_of_widths shape.now }
+    ensures { into.new.items ≡ (if is_ok result then into.old.items ++ whole_record s.now else into.old.items) }
+{
+    let start = into.len();
+    let _ = shape;
+    let done = append_whole(s, into);
+    if done.is_err() {
+        into.truncate(start);
+    }
+    done
+}
+
+/// Appends the record of what changed from one sample to another. Where memory is wanting, the words are as before.
+pub fn write_change(
+    shape: &Shape,
+    old: &Sample,
+    s: &Sample,
+    into: &mut Vec<u32>,
+) -> Result<(), NoMemory>
+    requires before { length old.now.words ≡ words_of_widths shape.now }
+    requires after { length s.now.words ≡ words_of_widths shape.now }
+    ensures { into.new.items ≡ (if is_ok result then into.old.items ++ change_record shape.now old.now s.now else into.old.items) }
+{
+    let start = into.len();
+    let done = append_change(shape, old, s, into);
+    if done.is_err() {
+        into.truncate(start);
+    }
+    done
+}
+
+fn append_whole(s: &Sample, into: &mut Vec<u32>) -> Result<(), NoMemory>
+    ensures ok { is_ok result ≡ true → into.new.items ≡ into.old.items ++ whole_record s.now }
+    ensures begins { take (length into.old.items) into.new.items ≡ into.old.items }
+{
+    let [first, second, third] = time_words(s.time);
+    into.extend_from_slice(&[0, first, second, third])?;
+    into.extend_from_slice(s.words.as_slice())?;
+    Ok(())
+}
+
+fn append_change(
+    shape: &Shape,
+    old: &Sample,
+    s: &Sample,
+    into: &mut Vec<u32>,
+) -> Result<(), NoMemory>
+    requires before { length old.now.words ≡ words_of_widths shape.now }
+    requires after { length s.now.words ≡ words_of_widths shape.now }
+    ensures ok { is_ok result ≡ true → into.new.items ≡ into.old.items ++ change_record shape.now old.now s.now }
+    ensures begins { take (length into.old.items) into.new.items ≡ into.old.items }
+{
+    let [first, second, third] = time_words(s.time);
+    into.extend_from_slice(&[1, first, second, third, 0])?;
+    let count_at = into.len() - 1;
+    let _ = shape.len();
+    let widths = shape.widths();
+    let count = append_slots(widths, old.words.as_slice(), s.words.as_slice(), into)?;
+    into[count_at] = count;
+    Ok(())
+}
+
+/// The three words of a time.
+fn time_words(time: Time) -> [u32; 3]
+    ensures { result ≡ time_words time }
+{
+    let t = time.femtoseconds();
+    [
+        (t % WORD) as u32,
+        (t / WORD % WORD) as u32,
+        (t / TWO_WORDS % WORD) as u32,
+    ]
+}
+
+/// Appends the slots that differ, each with its words, and answers how many they are. Blocks of slots whose words are all
+/// the same are passed over as a whole.
+fn append_slots(
+    widths: &[u32],
+    old: &[u32],
+    new: &[u32],
+    into: &mut Vec<u32>,
+) -> Result<u32, NoMemory>
+    requires few { length widths.now < 2 ^ 32 }
+    requires before { length old.now ≡ words_of_widths widths.now }
+    requires after { length new.now ≡ words_of_widths widths.now }
+    ensures count { IfOk result (λ n. n ≡ length (changed_slots widths.now old.now new.now)) }
+    ensures ok { is_ok result ≡ true → into.new.items ≡ into.old.items ++ slots_with_words widths.now new.now (changed_slots widths.now old.now new.now) }
+    ensures begins { take (length into.old.items) into.new.items ≡ into.old.items }
+{
+    let mut slot = 0usize;
+    let mut place = 0usize;
+    let mut count = 0u32;
+    while slot < widths.len() {
+        let end = block_end(slot, widths.len());
+        let place_end = place + room_of(&widths[slot..end]);
+        if !same(&old[place..place_end], &new[place..place_end]) {
+            count += append_block(widths, slot, end, old, new, place, into)?;
+        }
+        slot = end;
+        place = place_end;
+    }
+    Ok(count)
+}
+
+/// Where the block of slots that begins at a slot ends.
+fn block_end(slot: usize, len: usize) -> usize
+    requires { slot < len }
+    ensures more { slot < result }
+    ensures within { result ≤ len }
+{
+    if len - slot <= BLOCK {
+        len
+    } else {
+        slot + BLOCK
+    }
+}
+
+/// How many words slots of these widths take.
+fn room_of(widths: &[u32]) -> usize
+    requires { words_of_widths widths.now < 2 ^ 64 }
+    ensures { result ≡ words_of_widths widths.now }
+{
+    let mut room = 0usize;
+    for width in widths {
+        room += width.div_ceil(32) as usize;
+    }
+    room
+}
+
+/// Whether two runs of words are the same.
+fn same(one: &[u32], other: &[u32]) -> bool
+    requires { length one.now ≡ length other.now }
+    ensures { result ≡ bytes_eq one.now other.now }
+{
+    one == other
+}
+
+/// The same for the slots from `from` to `end`, whose words begin at a place.
+fn append_block(
+    widths: &[u32],
+    from: usize,
+    end: usize,
+    old: &[u32],
+    new: &[u32],
+    place: usize,
+    into: &mut Vec<u32>,
+) -> Result<u32, NoMemory>
+    requires few { length widths.now < 2 ^ 32 }
+    requires before { length old.now ≡ words_of_widths widths.now }
+    requires after { length new.now ≡ words_of_widths widths.now }
+    requires order { from ≤ end }
+    requires within { end ≤ length widths.now }
+    requires place { place ≡ place_of widths.now from }
+    ensures count { IfOk result (λ n. n ≡ length (changed_among widths.now old.now new.now from (end - from))) }
+    ensures few { IfOk result (λ n. n ≤ end - from) }
+    ensures ok { is_ok result ≡ true → into.new.items ≡ into.old.items ++ slots_with_words widths.now new.now (changed_among widths.now old.now new.now from (end - from)) }
+    ensures begins { take (length into.old.items) into.new.items ≡ into.old.items }
+{
+    let mut place = place;
+    let mut count = 0u32;
+    for slot in from..end {
+        let place_end = place + widths[slot].div_ceil(32) as usize;
+        let words = &new[place..place_end];
+        if !same(&old[place..place_end], words) {
+            append_slot(slot as u32, words, into)?;
+            count += 1;
+        }
+        place = place_end;
+    }
+    Ok(count)
+}
+
+/// Appends the number of a slot and its words.
+fn append_slot(slot: u32, words: &[u32], into: &mut Vec<u32>) -> Result<(), NoMemory>
+    ensures ok { is_ok result ≡ true → into.new.items ≡ into.old.items ++ slot ∷ words.now }
+    ensures begins { take (length into.old.items) into.new.items ≡ into.old.items }
+{
+    into.push(slot)?;
+    into.extend_from_slice(words)?;
+    Ok(())
+}
