@@ -58,8 +58,8 @@ no_fault t c b refusal.StimulusNotBuilt told run fault =
 -- ---- by the status
 
 -- a file that has a fault is not followed
-abbrev Unfaulty : ℕ → Outside → Command → Type 0
-Unfaulty limit w c = (r : Refusal) → IsToldOf (task limit w c) r → IsFaultOf (task limit w c) r → ⊥
+abbrev Unfaulty : ℕ → Outside → Outside → Command → Type 0
+Unfaulty limit before now c = (r : Refusal) → IsToldOf (task limit before now c) r → IsFaultOf (task limit before now c) r → ⊥
 
 some_is : {X : Type 0} (x y : X) → Some x ≡ Some y → x ≡ y
 some_is x y e = cc
@@ -68,11 +68,11 @@ none_some : {X : Type 0} (x : X) → Some x ≡ None → ⊥
 none_some x e = cc
 
 -- the fault of another command is that of this one
-unfaulty_of : (limit : ℕ) (w : Outside) (c d : Command) → Unfaulty limit w c → Some c ≡ Some d → Unfaulty limit w d
-unfaulty_of limit w c d un e = subst (λ (z : Command). Unfaulty limit w z) (some_is c d e) un
+unfaulty_of : (limit : ℕ) (before now : Outside) (c d : Command) → Unfaulty limit before now c → Some c ≡ Some d → Unfaulty limit before now d
+unfaulty_of limit before now c d un e = subst (λ (z : Command). Unfaulty limit before now z) (some_is c d e) un
 
-done_whole : (limit : ℕ) (w : Outside) (c : Command) → IsDoneBy (task limit w c) false c.mode → Unfaulty limit w c → IsAnswered limit (Some c) w 0
-done_whole limit w c is un = record {
+done_whole : (limit : ℕ) (before now : Outside) (c : Command) → IsDoneBy (task limit before now c) false c.mode → Unfaulty limit before now c → IsAnswered limit (Some c) before now 0
+done_whole limit before now c is un = record {
   known = refl;
   done = λ e. is;
   unsettled = λ e. absurd (omega (arith, e));
@@ -80,14 +80,14 @@ done_whole limit w c is un = record {
   usage_comes = λ e. absurd (none_some c e);
   unread = λ e. absurd (omega (arith, e));
   refused = λ e. absurd (omega (arith, e));
-  refusal_comes = λ d e r told f. absurd (unfaulty_of limit w c d un e r told f);
+  refusal_comes = λ d e r told f. absurd (unfaulty_of limit before now c d un e r told f);
   unwritten = λ e. absurd (omega (arith, e));
   wanting = λ e. absurd (omega (arith, e));
   limited = λ e. absurd (omega (arith, e));
 }
 
-done_short : (limit : ℕ) (w : Outside) (c : Command) → IsDoneBy (task limit w c) true c.mode → Unfaulty limit w c → IsAnswered limit (Some c) w 6
-done_short limit w c is un = record {
+done_short : (limit : ℕ) (before now : Outside) (c : Command) → IsDoneBy (task limit before now c) true c.mode → Unfaulty limit before now c → IsAnswered limit (Some c) before now 6
+done_short limit before now c is un = record {
   known = refl;
   done = λ e. absurd (omega (arith, e));
   unsettled = λ e. is;
@@ -95,14 +95,14 @@ done_short limit w c is un = record {
   usage_comes = λ e. absurd (none_some c e);
   unread = λ e. absurd (omega (arith, e));
   refused = λ e. absurd (omega (arith, e));
-  refusal_comes = λ d e r told f. absurd (unfaulty_of limit w c d un e r told f);
+  refusal_comes = λ d e r told f. absurd (unfaulty_of limit before now c d un e r told f);
   unwritten = λ e. absurd (omega (arith, e));
   wanting = λ e. absurd (omega (arith, e));
   limited = λ e. absurd (omega (arith, e));
 }
 
-misused : (limit : ℕ) (w : Outside) → IsMisused None w true → IsAnswered limit None w 2
-misused limit w is = record {
+misused : (limit : ℕ) (before now : Outside) → IsMisused None before now true → IsAnswered limit None before now 2
+misused limit before now is = record {
   known = refl;
   done = λ e. absurd (omega (arith, e));
   unsettled = λ e. absurd (omega (arith, e));
@@ -116,8 +116,8 @@ misused limit w is = record {
   limited = λ e. absurd (omega (arith, e));
 }
 
-misused_unlogged : (limit : ℕ) (w : Outside) → IsMisused None w false → IsAnswered limit None w 5
-misused_unlogged limit w is = record {
+misused_unlogged : (limit : ℕ) (before now : Outside) → IsMisused None before now false → IsAnswered limit None before now 5
+misused_unlogged limit before now is = record {
   known = refl;
   done = λ e. absurd (omega (arith, e));
   unsettled = λ e. absurd (omega (arith, e));
@@ -131,8 +131,8 @@ misused_unlogged limit w is = record {
   limited = λ e. absurd (omega (arith, e));
 }
 
-unread : (limit : ℕ) (w : Outside) (c : Command) → IsUnreadBy (task limit w c) c.mode → IsAnswered limit (Some c) w 3
-unread limit w c is = record {
+unread : (limit : ℕ) (before now : Outside) (c : Command) → IsUnreadBy (task limit before now c) c.mode → IsAnswered limit (Some c) before now 3
+unread limit before now c is = record {
   known = refl;
   done = λ e. absurd (omega (arith, e));
   unsettled = λ e. absurd (omega (arith, e));
@@ -146,8 +146,8 @@ unread limit w c is = record {
   limited = λ e. absurd (omega (arith, e));
 }
 
-refused : (limit : ℕ) (w : Outside) (c : Command) → IsRefused (task limit w c) true → IsAnswered limit (Some c) w 4
-refused limit w c is = record {
+refused : (limit : ℕ) (before now : Outside) (c : Command) → IsRefused (task limit before now c) true → IsAnswered limit (Some c) before now 4
+refused limit before now c is = record {
   known = refl;
   done = λ e. absurd (omega (arith, e));
   unsettled = λ e. absurd (omega (arith, e));
@@ -161,8 +161,8 @@ refused limit w c is = record {
   limited = λ e. absurd (omega (arith, e));
 }
 
-refused_unlogged : (limit : ℕ) (w : Outside) (c : Command) → IsRefused (task limit w c) false → IsAnswered limit (Some c) w 5
-refused_unlogged limit w c is = record {
+refused_unlogged : (limit : ℕ) (before now : Outside) (c : Command) → IsRefused (task limit before now c) false → IsAnswered limit (Some c) before now 5
+refused_unlogged limit before now c is = record {
   known = refl;
   done = λ e. absurd (omega (arith, e));
   unsettled = λ e. absurd (omega (arith, e));
@@ -170,14 +170,14 @@ refused_unlogged limit w c is = record {
   usage_comes = λ e. absurd (none_some c e);
   unread = λ e. absurd (omega (arith, e));
   refused = λ e. absurd (omega (arith, e));
-  refusal_comes = λ d e r told f. inr (inr (inl (refl, subst (λ (z : Command). IsRefused (task limit w z) false) (some_is c d e) is)));
+  refusal_comes = λ d e r told f. inr (inr (inl (refl, subst (λ (z : Command). IsRefused (task limit before now z) false) (some_is c d e) is)));
   unwritten = λ e. inr (inl is);
   wanting = λ e. absurd (omega (arith, e));
   limited = λ e. absurd (omega (arith, e));
 }
 
-unwritten : (limit : ℕ) (w : Outside) (c : Command) → IsUnwrittenBy (task limit w c) c.mode → Unfaulty limit w c → IsAnswered limit (Some c) w 5
-unwritten limit w c is un = record {
+unwritten : (limit : ℕ) (before now : Outside) (c : Command) → IsUnwrittenBy (task limit before now c) c.mode → Unfaulty limit before now c → IsAnswered limit (Some c) before now 5
+unwritten limit before now c is un = record {
   known = refl;
   done = λ e. absurd (omega (arith, e));
   unsettled = λ e. absurd (omega (arith, e));
@@ -185,14 +185,14 @@ unwritten limit w c is un = record {
   usage_comes = λ e. absurd (none_some c e);
   unread = λ e. absurd (omega (arith, e));
   refused = λ e. absurd (omega (arith, e));
-  refusal_comes = λ d e r told f. absurd (unfaulty_of limit w c d un e r told f);
+  refusal_comes = λ d e r told f. absurd (unfaulty_of limit before now c d un e r told f);
   unwritten = λ e. inr (inr is);
   wanting = λ e. absurd (omega (arith, e));
   limited = λ e. absurd (omega (arith, e));
 }
 
-wanting : (limit : ℕ) (w : Outside) (c : Command) → IsWantingBy (task limit w c) c.mode → IsAnswered limit (Some c) w 8
-wanting limit w c is = record {
+wanting : (limit : ℕ) (before now : Outside) (c : Command) → IsWantingBy (task limit before now c) c.mode → IsAnswered limit (Some c) before now 8
+wanting limit before now c is = record {
   known = refl;
   done = λ e. absurd (omega (arith, e));
   unsettled = λ e. absurd (omega (arith, e));
@@ -206,8 +206,8 @@ wanting limit w c is = record {
   limited = λ e. absurd (omega (arith, e));
 }
 
-limited : (limit : ℕ) (w : Outside) (c : Command) → IsLimitedBy (task limit w c) c.mode → Unfaulty limit w c → IsAnswered limit (Some c) w 9
-limited limit w c is un = record {
+limited : (limit : ℕ) (before now : Outside) (c : Command) → IsLimitedBy (task limit before now c) c.mode → Unfaulty limit before now c → IsAnswered limit (Some c) before now 9
+limited limit before now c is un = record {
   known = refl;
   done = λ e. absurd (omega (arith, e));
   unsettled = λ e. absurd (omega (arith, e));
@@ -215,7 +215,7 @@ limited limit w c is un = record {
   usage_comes = λ e. absurd (none_some c e);
   unread = λ e. absurd (omega (arith, e));
   refused = λ e. absurd (omega (arith, e));
-  refusal_comes = λ d e r told f. absurd (unfaulty_of limit w c d un e r told f);
+  refusal_comes = λ d e r told f. absurd (unfaulty_of limit before now c d un e r told f);
   unwritten = λ e. absurd (omega (arith, e));
   wanting = λ e. absurd (omega (arith, e));
   limited = λ e. is;
@@ -223,54 +223,54 @@ limited limit w c is un = record {
 
 -- ---- all ways in which a call ends
 
-unfaulty_run : (limit : ℕ) (w : Outside) (cmd : Command) (c : Circuit) (b : Block) → IsRun limit (task limit w cmd).design (task limit w cmd).stimulus c b → Unfaulty limit w cmd
-unfaulty_run limit w cmd c b run r told f = no_fault (task limit w cmd) c b r told run f
+unfaulty_run : (limit : ℕ) (before now : Outside) (cmd : Command) (c : Circuit) (b : Block) → IsRun limit (task limit before now cmd).design (task limit before now cmd).stimulus c b → Unfaulty limit before now cmd
+unfaulty_run limit before now cmd c b run r told f = no_fault (task limit before now cmd) c b r told run f
 
 -- what holds in a mode holds in that of the command
 in_mode : (P : Mode → Type 0) (m n : Mode) → m ≡ n → P n → P m
 in_mode P m n e p = subst (λ (z : Mode). P z) (sym e) p
 
-closed_answers : (limit : ℕ) (w : Outside) (c : Command) → c.mode ≡ mode.Solo → (ends : Ending) (unsettled logged : Bool)
-    → IsClosed (task limit w c) (record { ending = ends; unsettled = unsettled; logged = logged }) → IsAnswered limit (Some c) w (ended_status ends unsettled logged)
-closed_answers limit w c m ending.Served false true is =
-    done_whole limit w c (in_mode (IsDoneBy (task limit w c) false) c.mode mode.Solo m is) (unfaulty_run limit w c is.circuit is.block is.is_run)
-closed_answers limit w c m ending.Served true true is =
-    done_short limit w c (in_mode (IsDoneBy (task limit w c) true) c.mode mode.Solo m is) (unfaulty_run limit w c is.circuit is.block is.is_run)
-closed_answers limit w c m ending.Served unsettled false is =
-    unwritten limit w c (in_mode (IsUnwrittenBy (task limit w c)) c.mode mode.Solo m (inr (unsettled, is))) (unfaulty_run limit w c is.circuit is.block is.is_run)
-closed_answers limit w c m ending.Limit unsettled logged is =
-    limited limit w c (in_mode (IsLimitedBy (task limit w c)) c.mode mode.Solo m (unsettled, logged, is)) (unfaulty_run limit w c is.circuit is.block is.is_run)
-closed_answers limit w c m ending.InputFailed unsettled logged is =
-    unread limit w c (in_mode (IsUnreadBy (task limit w c)) c.mode mode.Solo m (inr (unsettled, logged, is)))
-closed_answers limit w c m ending.OutputFailed unsettled logged is =
-    unwritten limit w c (in_mode (IsUnwrittenBy (task limit w c)) c.mode mode.Solo m (inl (unsettled, logged, is))) (unfaulty_run limit w c is.circuit is.block is.is_run)
+closed_answers : (limit : ℕ) (before now : Outside) (c : Command) → c.mode ≡ mode.Solo → (ends : Ending) (unsettled logged : Bool)
+    → IsClosed (task limit before now c) (record { ending = ends; unsettled = unsettled; logged = logged }) → IsAnswered limit (Some c) before now (ended_status ends unsettled logged)
+closed_answers limit before now c m ending.Served false true is =
+    done_whole limit before now c (in_mode (IsDoneBy (task limit before now c) false) c.mode mode.Solo m is) (unfaulty_run limit before now c is.circuit is.block is.is_run)
+closed_answers limit before now c m ending.Served true true is =
+    done_short limit before now c (in_mode (IsDoneBy (task limit before now c) true) c.mode mode.Solo m is) (unfaulty_run limit before now c is.circuit is.block is.is_run)
+closed_answers limit before now c m ending.Served unsettled false is =
+    unwritten limit before now c (in_mode (IsUnwrittenBy (task limit before now c)) c.mode mode.Solo m (inr (unsettled, is))) (unfaulty_run limit before now c is.circuit is.block is.is_run)
+closed_answers limit before now c m ending.Limit unsettled logged is =
+    limited limit before now c (in_mode (IsLimitedBy (task limit before now c)) c.mode mode.Solo m (unsettled, logged, is)) (unfaulty_run limit before now c is.circuit is.block is.is_run)
+closed_answers limit before now c m ending.InputFailed unsettled logged is =
+    unread limit before now c (in_mode (IsUnreadBy (task limit before now c)) c.mode mode.Solo m (inr (unsettled, logged, is)))
+closed_answers limit before now c m ending.OutputFailed unsettled logged is =
+    unwritten limit before now c (in_mode (IsUnwrittenBy (task limit before now c)) c.mode mode.Solo m (inl (unsettled, logged, is))) (unfaulty_run limit before now c is.circuit is.block is.is_run)
 
 unread_by : (t : Task) (m : Mode) → WentBy t m outcome.Unread → IsUnreadBy t m
 unread_by t mode.Trace is = is
 unread_by t mode.Solo is = inl is
 
-pub answers_by : (limit : ℕ) (w : Outside) (c : Command) (o : Outcome) → WentBy (task limit w c) c.mode o → IsAnswered limit (Some c) w (status_of o)
-answers_by limit w c (outcome.Misused logged) is = absurd is
-answers_by limit w c outcome.Unread is = unread limit w c (unread_by (task limit w c) c.mode is)
-answers_by limit w c (outcome.Refused r true) is = refused limit w c (r, is.0, is.1, is.2, is.3)
-answers_by limit w c (outcome.Refused r false) is = refused_unlogged limit w c (r, is.0, is.1, is.2, is.3)
-answers_by limit w c (outcome.Traced false) (m, is) =
-    done_whole limit w c (in_mode (IsDoneBy (task limit w c) false) c.mode mode.Trace m is) (unfaulty_run limit w c is.0.circuit is.0.block is.0.is_run)
-answers_by limit w c (outcome.Traced true) (m, is) =
-    done_short limit w c (in_mode (IsDoneBy (task limit w c) true) c.mode mode.Trace m is) (unfaulty_run limit w c is.0.circuit is.0.block is.0.is_run)
-answers_by limit w c outcome.Untraced (m, is) =
-    unwritten limit w c (in_mode (IsUnwrittenBy (task limit w c)) c.mode mode.Trace m is) (unfaulty_run limit w c is.run.0 is.run.1 is.run.2)
-answers_by limit w c (outcome.Closed k) (m, is) = closed_answers limit w c m k.ending k.unsettled k.logged is
-answers_by limit w c outcome.NoMemory is = wanting limit w c is
+pub answers_by : (limit : ℕ) (before now : Outside) (c : Command) (o : Outcome) → WentBy (task limit before now c) c.mode o → IsAnswered limit (Some c) before now (status_of o)
+answers_by limit before now c (outcome.Misused logged) is = absurd is
+answers_by limit before now c outcome.Unread is = unread limit before now c (unread_by (task limit before now c) c.mode is)
+answers_by limit before now c (outcome.Refused r true) is = refused limit before now c (r, is.0, is.1, is.2, is.3)
+answers_by limit before now c (outcome.Refused r false) is = refused_unlogged limit before now c (r, is.0, is.1, is.2, is.3)
+answers_by limit before now c (outcome.Traced false) (m, is) =
+    done_whole limit before now c (in_mode (IsDoneBy (task limit before now c) false) c.mode mode.Trace m is) (unfaulty_run limit before now c is.0.circuit is.0.block is.0.is_run)
+answers_by limit before now c (outcome.Traced true) (m, is) =
+    done_short limit before now c (in_mode (IsDoneBy (task limit before now c) true) c.mode mode.Trace m is) (unfaulty_run limit before now c is.0.circuit is.0.block is.0.is_run)
+answers_by limit before now c outcome.Untraced (m, is) =
+    unwritten limit before now c (in_mode (IsUnwrittenBy (task limit before now c)) c.mode mode.Trace m is) (unfaulty_run limit before now c is.run.0 is.run.1 is.run.2)
+answers_by limit before now c (outcome.Closed k) (m, is) = closed_answers limit before now c m k.ending k.unsettled k.logged is
+answers_by limit before now c outcome.NoMemory is = wanting limit before now c is
 
 -- a call answers what it left
-pub answers : (limit : ℕ) (asked : Option Command) (w : Outside) (o : Outcome) → Went limit asked w o → IsAnswered limit asked w (status_of o)
-answers limit None w (outcome.Misused true) is = misused limit w is
-answers limit None w (outcome.Misused false) is = misused_unlogged limit w is
-answers limit None w outcome.Unread is = absurd is
-answers limit None w (outcome.Refused r logged) is = absurd is
-answers limit None w (outcome.Traced unsettled) is = absurd is
-answers limit None w outcome.Untraced is = absurd is
-answers limit None w (outcome.Closed k) is = absurd is
-answers limit None w outcome.NoMemory is = absurd is
-answers limit (Some c) w o is = answers_by limit w c o is
+pub answers : (limit : ℕ) (asked : Option Command) (before now : Outside) (o : Outcome) → Went limit asked before now o → IsAnswered limit asked before now (status_of o)
+answers limit None before now (outcome.Misused true) is = misused limit before now is
+answers limit None before now (outcome.Misused false) is = misused_unlogged limit before now is
+answers limit None before now outcome.Unread is = absurd is
+answers limit None before now (outcome.Refused r logged) is = absurd is
+answers limit None before now (outcome.Traced unsettled) is = absurd is
+answers limit None before now outcome.Untraced is = absurd is
+answers limit None before now (outcome.Closed k) is = absurd is
+answers limit None before now outcome.NoMemory is = absurd is
+answers limit (Some c) before now o is = answers_by limit before now c o is

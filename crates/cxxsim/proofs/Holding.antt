@@ -8,11 +8,12 @@ use Rattle.hall_core.specs.Legal.{Legal, RunFacts}
 use Rattle.hall_core.specs.declared.entry.Entry.{Entry}
 use Rattle.hall_core.specs.declared.entry.Entry.TheVariants as entry
 use Rattle.hall_core.proofs.Histories.{legal_taken}
-use Rattle.solo_session.specs.Solo.{IsCause, IsEnded, IsWanting, Start}
+use Rattle.solo_session.specs.Solo.{IsCause, IsEnded, IsWanting, Start, start_of}
 use Rattle.solo_session.specs.declared.solo.Ending.{Ending}
 use Rattle.solo_session.specs.declared.solo.Ending.TheVariants as ending
 use Rattle.solo_session.proofs.Leaving.{broken_wanting, whole_wanting}
-use Rattle.cxxsim.specs.Outside.{Told}
+use Rattle.outside.specs.Sink.{SinkSeen}
+use Rattle.outside.specs.Source.{SourceSeen}
 use Rattle.cxxsim.specs.Solo.{IsHeld, IsSentAtMost}
 
 ended_legal : (start : Start) (left held : Option (List ℕ)) (history : List Entry) (ends : Ending) → IsEnded start left held history ends → Legal (facts_of start.run) history
@@ -21,12 +22,12 @@ ended_legal start left held history ending.Limit is = is.by.session.legal
 ended_legal start left held history ending.InputFailed is = is.by.0.session.legal
 ended_legal start left held history ending.OutputFailed is = is.by.0.session.legal
 
-pub served_is_held : (run : Sampled) (input out : Told) (history : List Entry) (ends : Ending) → 1 ≤ run_length (run_of run)
-    → IsEnded (record { run = run_of run; left = input.before; held = out.before }) input.now out.now history ends → IsCause ends input.faults input.faults_now out.faults out.faults_now
-    → IsHeld run input out history ends
-served_is_held run input out history ends settled is cause = record {
+pub served_is_held : (run : Sampled) (input input_now : SourceSeen) (out out_now : SinkSeen) (history : List Entry) (ends : Ending) → 1 ≤ run_length (run_of run)
+    → IsEnded (start_of (run_of run) input out) input_now.left out_now.held history ends → IsCause ends input input_now out out_now
+    → IsHeld run input input_now out out_now history ends
+served_is_held run input input_now out out_now history ends settled is cause = record {
   either = inr (record { settled = settled; ended = is });
-  legal = ended_legal (record { run = run_of run; left = input.before; held = out.before }) input.now out.now history ends is;
+  legal = ended_legal (start_of (run_of run) input out) input_now.left out_now.held history ends is;
   cause = cause;
 }
 
@@ -41,12 +42,12 @@ unserved_legal facts short some =
     apart : (e : Entry) (es : List Entry) → e ∷ es ≡ [] → ⊥
     apart e es h = cc
 
-pub unserved_is_held : (run : Sampled) (input out : Told) (history : List Entry) → run_length (run_of run) ≡ 0 → 1 ≤ (run_of run).count → history ≡ entry.Unsettled ∷ entry.End ∷ []
-    → input.now ≡ input.before → out.now ≡ out.before → input.faults_now ≡ input.faults → out.faults_now ≡ out.faults → IsHeld run input out history ending.Served
-unserved_is_held run input out history short some is quiet_input quiet_out input_same out_same = record {
+pub unserved_is_held : (run : Sampled) (input input_now : SourceSeen) (out out_now : SinkSeen) (history : List Entry) → run_length (run_of run) ≡ 0 → 1 ≤ (run_of run).count → history ≡ entry.Unsettled ∷ entry.End ∷ []
+    → input_now ≡ input → out_now ≡ out → IsHeld run input input_now out out_now history ending.Served
+unserved_is_held run input input_now out out_now history short some is quiet_input quiet_out = record {
   either = inl (record { unsettled = short; is = is; ended = refl; quiet_input = quiet_input; quiet_out = quiet_out });
   legal = subst (λ (h : List Entry). Legal (facts_of (run_of run)) h) (sym is) (unserved_legal (facts_of (run_of run)) short some);
-  cause = (input_same, out_same);
+  cause = (ap (λ (i : SourceSeen). i.faults) quiet_input, ap (λ (o : SinkSeen). o.faults) quiet_out);
 }
 
 ended_sends : (start : Start) (left held : Option (List ℕ)) (history : List Entry) (ends : Ending) → IsEnded start left held history ends → IsWanting start held
@@ -56,9 +57,9 @@ ended_sends start left held history ending.InputFailed is = broken_wanting start
 ended_sends start left held history ending.OutputFailed is = broken_wanting start held history is.by.0
 
 -- what a session sent is a beginning of what it is to send
-pub held_sends : (run : Sampled) (input out : Told) (history : List Entry) (ends : Ending) → IsHeld run input out history ends → IsSentAtMost run input out
-held_sends run input out history ends held =
+pub held_sends : (run : Sampled) (input input_now : SourceSeen) (out out_now : SinkSeen) (history : List Entry) (ends : Ending) → IsHeld run input input_now out out_now history ends → IsSentAtMost run input input_now out out_now
+held_sends run input input_now out out_now history ends held =
     elim held.either [
       | inl unserved ↦ inl unserved.quiet_out
-      | inr served ↦ inr (ended_sends (record { run = run_of run; left = input.before; held = out.before }) input.now out.now history ends served.ended)
+      | inr served ↦ inr (ended_sends (start_of (run_of run) input out) input_now.left out_now.held history ends served.ended)
     ]

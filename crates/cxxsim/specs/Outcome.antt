@@ -6,11 +6,12 @@ use Rattle.circuit.specs.declared.netlist.Circuit.{Circuit}
 use Rattle.flat_run.specs.Run.{run_under}
 use Rattle.flat_stimulus.specs.Block.{Block, sample_count}
 use Rattle.outside.specs.Faults.{Rose}
-use Rattle.outside.specs.Sink.{IsSentInPart}
+use Rattle.outside.specs.Sink.{IsSentInPart, SinkSeen}
+use Rattle.outside.specs.Source.{SourceSeen}
 use Rattle.solo_session.specs.declared.solo.Ending.{Ending}
 use Rattle.solo_session.specs.declared.solo.Ending.TheVariants as ending
 use Rattle.cxxsim.specs.Answers.{IsClosed, IsDoneBy, IsFaultOf, IsIdle, IsMisused, IsUntraced, IsWantingBy, Task, task}
-use Rattle.cxxsim.specs.Outside.{HasFailed, HasGot, IsQuiet, Outside, Told}
+use Rattle.cxxsim.specs.Outside.{HasFailed, HasGot, IsQuiet, Outside}
 use Rattle.cxxsim.specs.Printed.{refusal_line}
 use Rattle.cxxsim.specs.Solo.{IsSentAtMost, IsSessionOf}
 use Rattle.cxxsim.specs.TraceText.{run_text}
@@ -52,45 +53,45 @@ status_of outcome.NoMemory = 8
 -- what a call with a command leaves
 abbrev pub WentBy : Task → Mode → Outcome → Type 0
 WentBy t m (outcome.Misused logged) = ⊥
-WentBy t m outcome.Unread = Rose t.outside.unread t.outside.unread_now × IsIdle t.outside
-WentBy t m (outcome.Refused r logged) = IsFaultOf t r × HasGot logged t.outside.log (refusal_line r) × IsQuiet t.outside.input × IsQuiet t.outside.out
+WentBy t m outcome.Unread = Rose t.before.shelf.read_faults t.now.shelf.read_faults × IsIdle t.before t.now
+WentBy t m (outcome.Refused r logged) = IsFaultOf t r × HasGot logged t.before.log t.now.log (refusal_line r) × IsQuiet t.before.input t.now.input × IsQuiet t.before.out t.now.out
 WentBy t m (outcome.Traced unsettled) = (m ≡ mode.Trace) × IsDoneBy t unsettled mode.Trace
 WentBy t m outcome.Untraced = (m ≡ mode.Trace) × IsUntraced t
 WentBy t m (outcome.Closed c) = (m ≡ mode.Solo) × IsClosed t c
 WentBy t m outcome.NoMemory = IsWantingBy t m
 
 -- what the trace of a run leaves of the output
-abbrev pub TracedAs : Circuit → Block → Told → Outcome → Type 0
-TracedAs c b out (outcome.Misused logged) = ⊥
-TracedAs c b out outcome.Unread = ⊥
-TracedAs c b out (outcome.Refused r logged) = ⊥
-TracedAs c b out (outcome.Traced unsettled) = (unsettled ≡ nat_lt (run_length (run_under c b)) (sample_count b)) × (out.now ≡ append_known out.before (run_text (run_under c b)))
-TracedAs c b out outcome.Untraced = HasFailed out × IsSentInPart out.before out.now (run_text (run_under c b))
-TracedAs c b out (outcome.Closed k) = ⊥
-TracedAs c b out outcome.NoMemory = IsSentInPart out.before out.now (run_text (run_under c b))
+abbrev pub TracedAs : Circuit → Block → SinkSeen → SinkSeen → Outcome → Type 0
+TracedAs c b out out_now (outcome.Misused logged) = ⊥
+TracedAs c b out out_now outcome.Unread = ⊥
+TracedAs c b out out_now (outcome.Refused r logged) = ⊥
+TracedAs c b out out_now (outcome.Traced unsettled) = (unsettled ≡ nat_lt (run_length (run_under c b)) (sample_count b)) × (out_now.held ≡ append_known out.held (run_text (run_under c b)))
+TracedAs c b out out_now outcome.Untraced = HasFailed out out_now × IsSentInPart out.held out_now.held (run_text (run_under c b))
+TracedAs c b out out_now (outcome.Closed k) = ⊥
+TracedAs c b out out_now outcome.NoMemory = IsSentInPart out.held out_now.held (run_text (run_under c b))
 
 -- what a session over a run leaves
-abbrev pub HeldAs : Circuit → Block → Told → Told → Told → Outcome → Type 0
-HeldAs c b input out log (outcome.Misused logged) = ⊥
-HeldAs c b input out log outcome.Unread = ⊥
-HeldAs c b input out log (outcome.Refused r logged) = ⊥
-HeldAs c b input out log (outcome.Traced unsettled) = ⊥
-HeldAs c b input out log outcome.Untraced = ⊥
-HeldAs c b input out log (outcome.Closed k) = IsSessionOf (record { circuit = c; block = b }) input out log k
-HeldAs c b input out log outcome.NoMemory = IsQuiet log × IsSentAtMost (record { circuit = c; block = b }) input out
+abbrev pub HeldAs : Circuit → Block → SourceSeen → SourceSeen → SinkSeen → SinkSeen → SinkSeen → SinkSeen → Outcome → Type 0
+HeldAs c b input input_now out out_now log log_now (outcome.Misused logged) = ⊥
+HeldAs c b input input_now out out_now log log_now outcome.Unread = ⊥
+HeldAs c b input input_now out out_now log log_now (outcome.Refused r logged) = ⊥
+HeldAs c b input input_now out out_now log log_now (outcome.Traced unsettled) = ⊥
+HeldAs c b input input_now out out_now log log_now outcome.Untraced = ⊥
+HeldAs c b input input_now out out_now log log_now (outcome.Closed k) = IsSessionOf (record { circuit = c; block = b }) input input_now out out_now log log_now k
+HeldAs c b input input_now out out_now log log_now outcome.NoMemory = IsQuiet log log_now × IsSentAtMost (record { circuit = c; block = b }) input input_now out out_now
 
 -- what is left by a run that was followed
-abbrev pub FollowedAs : Circuit → Block → Told → Told → Told → Mode → Outcome → Type 0
-FollowedAs c b input out log mode.Trace o = TracedAs c b out o × IsQuiet input × IsQuiet log
-FollowedAs c b input out log mode.Solo o = HeldAs c b input out log o
+abbrev pub FollowedAs : Circuit → Block → SourceSeen → SourceSeen → SinkSeen → SinkSeen → SinkSeen → SinkSeen → Mode → Outcome → Type 0
+FollowedAs c b input input_now out out_now log log_now mode.Trace o = TracedAs c b out out_now o × IsQuiet input input_now × IsQuiet log log_now
+FollowedAs c b input input_now out out_now log log_now mode.Solo o = HeldAs c b input input_now out out_now log log_now o
 
 -- what a call leaves
-abbrev pub Went : ℕ → Option Command → Outside → Outcome → Type 0
-Went limit None w (outcome.Misused logged) = IsMisused None w logged
-Went limit None w outcome.Unread = ⊥
-Went limit None w (outcome.Refused r logged) = ⊥
-Went limit None w (outcome.Traced unsettled) = ⊥
-Went limit None w outcome.Untraced = ⊥
-Went limit None w (outcome.Closed c) = ⊥
-Went limit None w outcome.NoMemory = ⊥
-Went limit (Some c) w o = WentBy (task limit w c) c.mode o
+abbrev pub Went : ℕ → Option Command → Outside → Outside → Outcome → Type 0
+Went limit None before now (outcome.Misused logged) = IsMisused None before now logged
+Went limit None before now outcome.Unread = ⊥
+Went limit None before now (outcome.Refused r logged) = ⊥
+Went limit None before now (outcome.Traced unsettled) = ⊥
+Went limit None before now outcome.Untraced = ⊥
+Went limit None before now (outcome.Closed c) = ⊥
+Went limit None before now outcome.NoMemory = ⊥
+Went limit (Some c) before now o = WentBy (task limit before now c) c.mode o

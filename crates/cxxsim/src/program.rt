@@ -4,7 +4,7 @@ ghost use Rattle.flat_design.specs.Flat.{IsFlat};
 ghost use Rattle.flat_run.specs.Run.{AreSamples};
 ghost use Rattle.cxxsim.specs.Answers.{IsAnswered, file_limit, task};
 ghost use Rattle.cxxsim.specs.Outcome.{FollowedAs, TracedAs, Went, WentBy};
-ghost use Rattle.cxxsim.specs.Outside.{IsLater, around, told};
+ghost use Rattle.cxxsim.specs.Outside.{IsLater, IsQuiet, outside_of};
 ghost use Rattle.cxxsim.specs.Solo.{IsSentAtMost, IsSessionOf};
 ghost use Rattle.cxxsim.specs.Words.{command_of};
 
@@ -41,8 +41,8 @@ fn given(name: &Option<Name>) -> &Name
 fn trace<O: Sink>(alloc: Global, loaded: &Loaded, out: &mut O) -> Outcome
     requires flat { IsFlat loaded.now.circuit }
     requires samples { AreSamples loaded.now.circuit loaded.now.stimulus }
-    ensures outcome { TracedAs loaded.now.circuit loaded.now.stimulus (told (O.held out.old) (O.held out.new) (O.faults out.old) (O.faults out.new)) result }
-    ensures later { O.faults out.old ≤ O.faults out.new }
+    ensures outcome { TracedAs loaded.now.circuit loaded.now.stimulus (O.seen out.old) (O.seen out.new) result }
+    ensures later { (O.seen out.old).faults ≤ (O.seen out.new).faults }
 {
     match write_trace(alloc, &loaded.circuit, &loaded.stimulus, out) {
         Ok(unsettled) => Outcome::Traced(unsettled),
@@ -61,12 +61,12 @@ fn serve_one<I: Source, O: Sink, G: Sink>(
 ) -> Result<Closed, NoMemory>
     requires flat { IsFlat loaded.circuit }
     requires samples { AreSamples loaded.circuit loaded.stimulus }
-    ensures session { IfOk result (IsSessionOf (record { circuit = loaded.circuit; block = loaded.stimulus }) (told (I.left input.old) (I.left input.new) (I.faults input.old) (I.faults input.new)) (told (O.held out.old) (O.held out.new) (O.faults out.old) (O.faults out.new)) (told (G.held log.old) (G.held log.new) (G.faults log.old) (G.faults log.new))) }
-    ensures quiet { OnErr result (G.held log.new ≡ G.held log.old) }
-    ensures wanting { OnErr result (IsSentAtMost (record { circuit = loaded.circuit; block = loaded.stimulus }) (told (I.left input.old) (I.left input.new) (I.faults input.old) (I.faults input.new)) (told (O.held out.old) (O.held out.new) (O.faults out.old) (O.faults out.new))) }
-    ensures input_later { I.faults input.old ≤ I.faults input.new }
-    ensures out_later { O.faults out.old ≤ O.faults out.new }
-    ensures log_later { G.faults log.old ≤ G.faults log.new }
+    ensures session { IfOk result (IsSessionOf (record { circuit = loaded.circuit; block = loaded.stimulus }) (I.seen input.old) (I.seen input.new) (O.seen out.old) (O.seen out.new) (G.seen log.old) (G.seen log.new)) }
+    ensures quiet { OnErr result (IsQuiet (G.seen log.old) (G.seen log.new)) }
+    ensures wanting { OnErr result (IsSentAtMost (record { circuit = loaded.circuit; block = loaded.stimulus }) (I.seen input.old) (I.seen input.new) (O.seen out.old) (O.seen out.new)) }
+    ensures input_later { (I.seen input.old).faults ≤ (I.seen input.new).faults }
+    ensures out_later { (O.seen out.old).faults ≤ (O.seen out.new).faults }
+    ensures log_later { (G.seen log.old).faults ≤ (G.seen log.new).faults }
 {
     let run = FlatRun::new(alloc, loaded.circuit, loaded.stimulus)?;
     converse(alloc, run, input, out, log)
@@ -83,10 +83,10 @@ fn follow<I: Source, O: Sink, G: Sink>(
 ) -> Outcome
     requires flat { IsFlat loaded.circuit }
     requires samples { AreSamples loaded.circuit loaded.stimulus }
-    ensures followed { FollowedAs loaded.circuit loaded.stimulus (told (I.left input.old) (I.left input.new) (I.faults input.old) (I.faults input.new)) (told (O.held out.old) (O.held out.new) (O.faults out.old) (O.faults out.new)) (told (G.held log.old) (G.held log.new) (G.faults log.old) (G.faults log.new)) mode result }
-    ensures input_later { I.faults input.old ≤ I.faults input.new }
-    ensures out_later { O.faults out.old ≤ O.faults out.new }
-    ensures log_later { G.faults log.old ≤ G.faults log.new }
+    ensures followed { FollowedAs loaded.circuit loaded.stimulus (I.seen input.old) (I.seen input.new) (O.seen out.old) (O.seen out.new) (G.seen log.old) (G.seen log.new) mode result }
+    ensures input_later { (I.seen input.old).faults ≤ (I.seen input.new).faults }
+    ensures out_later { (O.seen out.old).faults ≤ (O.seen out.new).faults }
+    ensures log_later { (G.seen log.old).faults ≤ (G.seen log.new).faults }
 {
     match mode {
         Mode::Trace => trace(alloc, &loaded, out),
@@ -109,10 +109,10 @@ pub(crate) fn run<S: Shelf, I: Source, O: Sink, G: Sink>(
 ) -> Outcome
     requires design { IsSome command.now.design }
     requires stimulus { IsSome command.now.stimulus }
-    ensures went { WentBy (task limit (around (S.file shelf.old) (S.read_faults shelf.old) (S.read_faults shelf.new) (told (I.left input.old) (I.left input.new) (I.faults input.old) (I.faults input.new)) (told (O.held out.old) (O.held out.new) (O.faults out.old) (O.faults out.new)) (told (G.held log.old) (G.held log.new) (G.faults log.old) (G.faults log.new))) command.now) command.now.mode result }
-    ensures later { IsLater (around (S.file shelf.old) (S.read_faults shelf.old) (S.read_faults shelf.new) (told (I.left input.old) (I.left input.new) (I.faults input.old) (I.faults input.new)) (told (O.held out.old) (O.held out.new) (O.faults out.old) (O.faults out.new)) (told (G.held log.old) (G.held log.new) (G.faults log.old) (G.faults log.new))) }
-    ensures files { (other : List ℕ) → S.file shelf.new other ≡ S.file shelf.old other }
-    ensures writes { S.write_faults shelf.new ≡ S.write_faults shelf.old }
+    ensures went { WentBy (task limit (outside_of (S.seen shelf.old) (I.seen input.old) (O.seen out.old) (G.seen log.old)) (outside_of (S.seen shelf.new) (I.seen input.new) (O.seen out.new) (G.seen log.new)) command.now) command.now.mode result }
+    ensures later { IsLater (outside_of (S.seen shelf.old) (I.seen input.old) (O.seen out.old) (G.seen log.old)) (outside_of (S.seen shelf.new) (I.seen input.new) (O.seen out.new) (G.seen log.new)) }
+    ensures files { (other : List ℕ) → (S.seen shelf.new).file other ≡ (S.seen shelf.old).file other }
+    ensures writes { (S.seen shelf.new).write_faults ≡ (S.seen shelf.old).write_faults }
 {
     let design = given(&command.design);
     let stimulus = given(&command.stimulus);
@@ -135,10 +135,10 @@ fn call<S: Shelf, I: Source, O: Sink, G: Sink>(
     out: &mut O,
     log: &mut G,
 ) -> Outcome
-    ensures went { Went file_limit (command_of (map string_bytes words.now)) (around (S.file shelf.old) (S.read_faults shelf.old) (S.read_faults shelf.new) (told (I.left input.old) (I.left input.new) (I.faults input.old) (I.faults input.new)) (told (O.held out.old) (O.held out.new) (O.faults out.old) (O.faults out.new)) (told (G.held log.old) (G.held log.new) (G.faults log.old) (G.faults log.new))) result }
-    ensures later { IsLater (around (S.file shelf.old) (S.read_faults shelf.old) (S.read_faults shelf.new) (told (I.left input.old) (I.left input.new) (I.faults input.old) (I.faults input.new)) (told (O.held out.old) (O.held out.new) (O.faults out.old) (O.faults out.new)) (told (G.held log.old) (G.held log.new) (G.faults log.old) (G.faults log.new))) }
-    ensures files { (other : List ℕ) → S.file shelf.new other ≡ S.file shelf.old other }
-    ensures writes { S.write_faults shelf.new ≡ S.write_faults shelf.old }
+    ensures went { Went file_limit (command_of (map string_bytes words.now)) (outside_of (S.seen shelf.old) (I.seen input.old) (O.seen out.old) (G.seen log.old)) (outside_of (S.seen shelf.new) (I.seen input.new) (O.seen out.new) (G.seen log.new)) result }
+    ensures later { IsLater (outside_of (S.seen shelf.old) (I.seen input.old) (O.seen out.old) (G.seen log.old)) (outside_of (S.seen shelf.new) (I.seen input.new) (O.seen out.new) (G.seen log.new)) }
+    ensures files { (other : List ℕ) → (S.seen shelf.new).file other ≡ (S.seen shelf.old).file other }
+    ensures writes { (S.seen shelf.new).write_faults ≡ (S.seen shelf.old).write_faults }
 {
     match read_words(alloc, words) {
         Ok(command) => run(alloc, &command, FILE_LIMIT, shelf, input, out, log),
@@ -162,10 +162,10 @@ pub fn solo<S: Shelf, I: Source, O: Sink, G: Sink>(
     requires stimulus { IsSome command.now.stimulus }
     requires top { command.now.top ≡ None }
     requires spool { command.now.spool ≡ None }
-    ensures answered { IsAnswered file_limit (Some command.now) (around (S.file shelf.old) (S.read_faults shelf.old) (S.read_faults shelf.new) (told (I.left input.old) (I.left input.new) (I.faults input.old) (I.faults input.new)) (told (O.held out.old) (O.held out.new) (O.faults out.old) (O.faults out.new)) (told (G.held log.old) (G.held log.new) (G.faults log.old) (G.faults log.new))) result }
-    ensures later { IsLater (around (S.file shelf.old) (S.read_faults shelf.old) (S.read_faults shelf.new) (told (I.left input.old) (I.left input.new) (I.faults input.old) (I.faults input.new)) (told (O.held out.old) (O.held out.new) (O.faults out.old) (O.faults out.new)) (told (G.held log.old) (G.held log.new) (G.faults log.old) (G.faults log.new))) }
-    ensures files { (other : List ℕ) → S.file shelf.new other ≡ S.file shelf.old other }
-    ensures writes { S.write_faults shelf.new ≡ S.write_faults shelf.old }
+    ensures answered { IsAnswered file_limit (Some command.now) (outside_of (S.seen shelf.old) (I.seen input.old) (O.seen out.old) (G.seen log.old)) (outside_of (S.seen shelf.new) (I.seen input.new) (O.seen out.new) (G.seen log.new)) result }
+    ensures later { IsLater (outside_of (S.seen shelf.old) (I.seen input.old) (O.seen out.old) (G.seen log.old)) (outside_of (S.seen shelf.new) (I.seen input.new) (O.seen out.new) (G.seen log.new)) }
+    ensures files { (other : List ℕ) → (S.seen shelf.new).file other ≡ (S.seen shelf.old).file other }
+    ensures writes { (S.seen shelf.new).write_faults ≡ (S.seen shelf.old).write_faults }
 {
     run(alloc, command, FILE_LIMIT, shelf, input, out, log).status()
 }
@@ -192,10 +192,10 @@ pub fn cxxsim<R: AllocGlobal, S: Shelf, I: Source, O: Sink, G: Sink>(
     out: &mut O,
     log: &mut G,
 ) -> u8
-    ensures answered { IsAnswered file_limit (command_of (map string_bytes words.now)) (around (S.file shelf.old) (S.read_faults shelf.old) (S.read_faults shelf.new) (told (I.left input.old) (I.left input.new) (I.faults input.old) (I.faults input.new)) (told (O.held out.old) (O.held out.new) (O.faults out.old) (O.faults out.new)) (told (G.held log.old) (G.held log.new) (G.faults log.old) (G.faults log.new))) result }
-    ensures later { IsLater (around (S.file shelf.old) (S.read_faults shelf.old) (S.read_faults shelf.new) (told (I.left input.old) (I.left input.new) (I.faults input.old) (I.faults input.new)) (told (O.held out.old) (O.held out.new) (O.faults out.old) (O.faults out.new)) (told (G.held log.old) (G.held log.new) (G.faults log.old) (G.faults log.new))) }
-    ensures files { (other : List ℕ) → S.file shelf.new other ≡ S.file shelf.old other }
-    ensures writes { S.write_faults shelf.new ≡ S.write_faults shelf.old }
+    ensures answered { IsAnswered file_limit (command_of (map string_bytes words.now)) (outside_of (S.seen shelf.old) (I.seen input.old) (O.seen out.old) (G.seen log.old)) (outside_of (S.seen shelf.new) (I.seen input.new) (O.seen out.new) (G.seen log.new)) result }
+    ensures later { IsLater (outside_of (S.seen shelf.old) (I.seen input.old) (O.seen out.old) (G.seen log.old)) (outside_of (S.seen shelf.new) (I.seen input.new) (O.seen out.new) (G.seen log.new)) }
+    ensures files { (other : List ℕ) → (S.seen shelf.new).file other ≡ (S.seen shelf.old).file other }
+    ensures writes { (S.seen shelf.new).write_faults ≡ (S.seen shelf.old).write_faults }
 {
     call(rt.alloc(), words, shelf, input, out, log).status()
 }

@@ -25,12 +25,12 @@ fn read_text<S: Shelf>(
     limit: u64,
     too_long: Refusal,
 ) -> Result<Vec<u8>, LoadFault>
-    ensures text { IfOk result (λ bytes. MayHold limit (S.file shelf.old name.now) bytes.items) }
-    ensures too_long { (r : TheRefusal) → IsErrOf result (LoadFault.Refused r) → (r ≡ too_long) × IsLonger (S.file shelf.old name.now) limit }
-    ensures read { IsErrOf result LoadFault.Read → Rose (S.read_faults shelf.old) (S.read_faults shelf.new) }
-    ensures later { S.read_faults shelf.old ≤ S.read_faults shelf.new }
-    ensures files { (other : List ℕ) → S.file shelf.new other ≡ S.file shelf.old other }
-    ensures writes { S.write_faults shelf.new ≡ S.write_faults shelf.old }
+    ensures text { IfOk result (λ bytes. MayHold limit ((S.seen shelf.old).file name.now) bytes.items) }
+    ensures too_long { (r : TheRefusal) → IsErrOf result (LoadFault.Refused r) → (r ≡ too_long) × IsLonger ((S.seen shelf.old).file name.now) limit }
+    ensures read { IsErrOf result LoadFault.Read → Rose (S.seen shelf.old).read_faults (S.seen shelf.new).read_faults }
+    ensures later { (S.seen shelf.old).read_faults ≤ (S.seen shelf.new).read_faults }
+    ensures files { (other : List ℕ) → (S.seen shelf.new).file other ≡ (S.seen shelf.old).file other }
+    ensures writes { (S.seen shelf.new).write_faults ≡ (S.seen shelf.old).write_faults }
 {
     match shelf.read(alloc, name, limit) {
         Ok(bytes) => Ok(bytes),
@@ -68,13 +68,13 @@ fn read_design<S: Shelf>(
     name: &Name,
     limit: u64,
 ) -> Result<Circuit, LoadFault>
-    ensures design { IfOk result (IsDesign limit (S.file shelf.old name.now)) }
+    ensures design { IfOk result (IsDesign limit ((S.seen shelf.old).file name.now)) }
     ensures flat { IfOk result IsFlat }
-    ensures refused { (r : TheRefusal) → IsErrOf result (LoadFault.Refused r) → ((r ≡ refusal.DesignTooLong) × IsLonger (S.file shelf.old name.now) limit) ⊎ ((r ≡ refusal.DesignNotBuilt) × HasNoDesign limit (S.file shelf.old name.now)) }
-    ensures read { IsErrOf result LoadFault.Read → Rose (S.read_faults shelf.old) (S.read_faults shelf.new) }
-    ensures later { S.read_faults shelf.old ≤ S.read_faults shelf.new }
-    ensures files { (other : List ℕ) → S.file shelf.new other ≡ S.file shelf.old other }
-    ensures writes { S.write_faults shelf.new ≡ S.write_faults shelf.old }
+    ensures refused { (r : TheRefusal) → IsErrOf result (LoadFault.Refused r) → ((r ≡ refusal.DesignTooLong) × IsLonger ((S.seen shelf.old).file name.now) limit) ⊎ ((r ≡ refusal.DesignNotBuilt) × HasNoDesign limit ((S.seen shelf.old).file name.now)) }
+    ensures read { IsErrOf result LoadFault.Read → Rose (S.seen shelf.old).read_faults (S.seen shelf.new).read_faults }
+    ensures later { (S.seen shelf.old).read_faults ≤ (S.seen shelf.new).read_faults }
+    ensures files { (other : List ℕ) → (S.seen shelf.new).file other ≡ (S.seen shelf.old).file other }
+    ensures writes { (S.seen shelf.new).write_faults ≡ (S.seen shelf.old).write_faults }
 {
     let text = read_text(alloc, shelf, name, limit, Refusal::DesignTooLong)?;
     match circuit_of_text(alloc, &text) {
@@ -92,13 +92,13 @@ fn read_samples<S: Shelf>(
     circuit: &Circuit,
 ) -> Result<FlatStimulus, LoadFault>
     requires { IsFlat circuit.now }
-    ensures stimulus { IfOk result (IsStimulus limit (S.file shelf.old name.now) circuit.now) }
+    ensures stimulus { IfOk result (IsStimulus limit ((S.seen shelf.old).file name.now) circuit.now) }
     ensures samples { IfOk result (AreSamples circuit.now) }
-    ensures refused { (r : TheRefusal) → IsErrOf result (LoadFault.Refused r) → ((r ≡ refusal.StimulusTooLong) × IsLonger (S.file shelf.old name.now) limit) ⊎ ((r ≡ refusal.StimulusNotBuilt) × HasNoBlock limit (S.file shelf.old name.now) circuit.now) }
-    ensures read { IsErrOf result LoadFault.Read → Rose (S.read_faults shelf.old) (S.read_faults shelf.new) }
-    ensures later { S.read_faults shelf.old ≤ S.read_faults shelf.new }
-    ensures files { (other : List ℕ) → S.file shelf.new other ≡ S.file shelf.old other }
-    ensures writes { S.write_faults shelf.new ≡ S.write_faults shelf.old }
+    ensures refused { (r : TheRefusal) → IsErrOf result (LoadFault.Refused r) → ((r ≡ refusal.StimulusTooLong) × IsLonger ((S.seen shelf.old).file name.now) limit) ⊎ ((r ≡ refusal.StimulusNotBuilt) × HasNoBlock limit ((S.seen shelf.old).file name.now) circuit.now) }
+    ensures read { IsErrOf result LoadFault.Read → Rose (S.seen shelf.old).read_faults (S.seen shelf.new).read_faults }
+    ensures later { (S.seen shelf.old).read_faults ≤ (S.seen shelf.new).read_faults }
+    ensures files { (other : List ℕ) → (S.seen shelf.new).file other ≡ (S.seen shelf.old).file other }
+    ensures writes { (S.seen shelf.new).write_faults ≡ (S.seen shelf.old).write_faults }
 {
     let text = read_text(alloc, shelf, name, limit, Refusal::StimulusTooLong)?;
     match read_stimulus(alloc, &text, circuit) {
@@ -123,14 +123,14 @@ pub fn load<S: Shelf>(
     limit: u64,
     shelf: &mut S,
 ) -> Result<Loaded, LoadFault>
-    ensures run { IfOk result (λ l. IsRun limit (S.file shelf.old design.now) (S.file shelf.old stimulus.now) l.circuit l.stimulus) }
+    ensures run { IfOk result (λ l. IsRun limit ((S.seen shelf.old).file design.now) ((S.seen shelf.old).file stimulus.now) l.circuit l.stimulus) }
     ensures flat { IfOk result (λ l. IsFlat l.circuit) }
     ensures samples { IfOk result (λ l. AreSamples l.circuit l.stimulus) }
-    ensures refused { (r : TheRefusal) → IsErrOf result (LoadFault.Refused r) → IsFault limit (S.file shelf.old design.now) (S.file shelf.old stimulus.now) r }
-    ensures read { IsErrOf result LoadFault.Read → Rose (S.read_faults shelf.old) (S.read_faults shelf.new) }
-    ensures later { S.read_faults shelf.old ≤ S.read_faults shelf.new }
-    ensures files { (other : List ℕ) → S.file shelf.new other ≡ S.file shelf.old other }
-    ensures writes { S.write_faults shelf.new ≡ S.write_faults shelf.old }
+    ensures refused { (r : TheRefusal) → IsErrOf result (LoadFault.Refused r) → IsFault limit ((S.seen shelf.old).file design.now) ((S.seen shelf.old).file stimulus.now) r }
+    ensures read { IsErrOf result LoadFault.Read → Rose (S.seen shelf.old).read_faults (S.seen shelf.new).read_faults }
+    ensures later { (S.seen shelf.old).read_faults ≤ (S.seen shelf.new).read_faults }
+    ensures files { (other : List ℕ) → (S.seen shelf.new).file other ≡ (S.seen shelf.old).file other }
+    ensures writes { (S.seen shelf.new).write_faults ≡ (S.seen shelf.old).write_faults }
 {
     let circuit = read_design(alloc, shelf, design, limit)?;
     let stimulus = read_samples(alloc, shelf, stimulus, limit, &circuit)?;

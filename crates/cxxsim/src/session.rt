@@ -2,7 +2,7 @@
 ghost use Rattle.std.specs.Prelude.{◌≡◌, [], ◌≤◌, IfOk, OnErr, false};
 ghost use Rattle.flat_run.specs.Run.{run_of};
 ghost use Rattle.hall_core.specs.Replay.{replay};
-ghost use Rattle.cxxsim.specs.Outside.{HasGot, told};
+ghost use Rattle.cxxsim.specs.Outside.{HasGot, IsQuiet};
 ghost use Rattle.cxxsim.specs.Solo.{IsHeld, IsSentAtMost, IsSessionOf};
 
 use flat_run::FlatRun;
@@ -32,10 +32,10 @@ fn hold<I: Source, O: Sink>(
     requires history { session.old.history ≡ [] }
     requires greeted { session.old.greeted ≡ false }
     requires some { 1 ≤ (run_of session.old.samples).count }
-    ensures held { IfOk result (λ ending. IsHeld session.old.samples (told (I.left input.old) (I.left input.new) (I.faults input.old) (I.faults input.new)) (told (O.held out.old) (O.held out.new) (O.faults out.old) (O.faults out.new)) session.new.history ending) }
-    ensures wanting { OnErr result (IsSentAtMost session.old.samples (told (I.left input.old) (I.left input.new) (I.faults input.old) (I.faults input.new)) (told (O.held out.old) (O.held out.new) (O.faults out.old) (O.faults out.new))) }
-    ensures input_later { I.faults input.old ≤ I.faults input.new }
-    ensures out_later { O.faults out.old ≤ O.faults out.new }
+    ensures held { IfOk result (λ ending. IsHeld session.old.samples (I.seen input.old) (I.seen input.new) (O.seen out.old) (O.seen out.new) session.new.history ending) }
+    ensures wanting { OnErr result (IsSentAtMost session.old.samples (I.seen input.old) (I.seen input.new) (O.seen out.old) (O.seen out.new)) }
+    ensures input_later { (I.seen input.old).faults ≤ (I.seen input.new).faults }
+    ensures out_later { (O.seen out.old).faults ≤ (O.seen out.new).faults }
 {
     if session.open()? {
         serve(alloc, session, input, out)
@@ -52,12 +52,12 @@ pub fn converse<I: Source, O: Sink, G: Sink>(
     out: &mut O,
     log: &mut G,
 ) -> Result<Closed, NoMemory>
-    ensures session { IfOk result (IsSessionOf run (told (I.left input.old) (I.left input.new) (I.faults input.old) (I.faults input.new)) (told (O.held out.old) (O.held out.new) (O.faults out.old) (O.faults out.new)) (told (G.held log.old) (G.held log.new) (G.faults log.old) (G.faults log.new))) }
-    ensures quiet { OnErr result (G.held log.new ≡ G.held log.old) }
-    ensures wanting { OnErr result (IsSentAtMost run (told (I.left input.old) (I.left input.new) (I.faults input.old) (I.faults input.new)) (told (O.held out.old) (O.held out.new) (O.faults out.old) (O.faults out.new))) }
-    ensures input_later { I.faults input.old ≤ I.faults input.new }
-    ensures out_later { O.faults out.old ≤ O.faults out.new }
-    ensures log_later { G.faults log.old ≤ G.faults log.new }
+    ensures session { IfOk result (IsSessionOf run (I.seen input.old) (I.seen input.new) (O.seen out.old) (O.seen out.new) (G.seen log.old) (G.seen log.new)) }
+    ensures quiet { OnErr result (IsQuiet (G.seen log.old) (G.seen log.new)) }
+    ensures wanting { OnErr result (IsSentAtMost run (I.seen input.old) (I.seen input.new) (O.seen out.old) (O.seen out.new)) }
+    ensures input_later { (I.seen input.old).faults ≤ (I.seen input.new).faults }
+    ensures out_later { (O.seen out.old).faults ≤ (O.seen out.new).faults }
+    ensures log_later { (G.seen log.old).faults ≤ (G.seen log.new).faults }
 {
     let _count = run.count();
     let mut session = Session::new(alloc, run)?;
@@ -73,8 +73,8 @@ pub fn converse<I: Source, O: Sink, G: Sink>(
 
 /// Writes a text to a log, and answers whether the log has got the whole of it.
 pub fn put_log<G: Sink>(log: &mut G, text: &[u8]) -> bool
-    ensures got { HasGot result (told (G.held log.old) (G.held log.new) (G.faults log.old) (G.faults log.new)) text.now }
-    ensures later { G.faults log.old ≤ G.faults log.new }
+    ensures got { HasGot result (G.seen log.old) (G.seen log.new) text.now }
+    ensures later { (G.seen log.old).faults ≤ (G.seen log.new).faults }
 {
     match put_all(log, text) {
         Ok(()) => true,

@@ -70,11 +70,11 @@ fn trace_sample(
 
 /// Hands the text to the output.
 fn flush<O: Sink>(text: &mut Vec<u8>, out: &mut O) -> Result<(), TraceFault>
-    ensures ok { IfOk result (λ _. (O.held out.new ≡ append_known (O.held out.old) text.old.items) × (text.new.items ≡ [])) }
-    ensures begun { IsSentInPart (O.held out.old) (O.held out.new) text.old.items }
-    ensures write { IsErrOf result TraceFault.Write → Rose (O.faults out.old) (O.faults out.new) }
+    ensures ok { IfOk result (λ _. ((O.seen out.new).held ≡ append_known (O.seen out.old).held text.old.items) × (text.new.items ≡ [])) }
+    ensures begun { IsSentInPart (O.seen out.old).held (O.seen out.new).held text.old.items }
+    ensures write { IsErrOf result TraceFault.Write → Rose (O.seen out.old).faults (O.seen out.new).faults }
     ensures only { IsErr result → IsErrOf result TraceFault.Write }
-    ensures later { O.faults out.old ≤ O.faults out.new }
+    ensures later { (O.seen out.old).faults ≤ (O.seen out.new).faults }
 {
     match put_all(out, text) {
         Ok(()) => {
@@ -87,11 +87,11 @@ fn flush<O: Sink>(text: &mut Vec<u8>, out: &mut O) -> Result<(), TraceFault>
 
 /// Hands the text to the output where it is long enough.
 fn flush_long<O: Sink>(text: &mut Vec<u8>, out: &mut O) -> Result<(), TraceFault>
-    ensures ok { IfOk result (λ _. HasLeft (O.held out.old) (O.held out.new) text.old.items text.new.items) }
-    ensures begun { IsSentInPart (O.held out.old) (O.held out.new) text.old.items }
-    ensures write { IsErrOf result TraceFault.Write → Rose (O.faults out.old) (O.faults out.new) }
+    ensures ok { IfOk result (λ _. HasLeft (O.seen out.old).held (O.seen out.new).held text.old.items text.new.items) }
+    ensures begun { IsSentInPart (O.seen out.old).held (O.seen out.new).held text.old.items }
+    ensures write { IsErrOf result TraceFault.Write → Rose (O.seen out.old).faults (O.seen out.new).faults }
     ensures only { IsErr result → IsErrOf result TraceFault.Write }
-    ensures later { O.faults out.old ≤ O.faults out.new }
+    ensures later { (O.seen out.old).faults ≤ (O.seen out.new).faults }
 {
     if text.len() < ENOUGH {
         return Ok(());
@@ -116,11 +116,11 @@ fn write_samples<O: Sink>(
     requires starts { rounds.old ≡ start circuit.now }
     requires text { text.old.items ≡ header circuit.now }
     ensures length { IfOk result (λ done. done ≡ run_length (run_under circuit.now stimulus.now)) }
-    ensures left { IfOk result (λ done. HasLeft (O.held out.old) (O.held out.new) (header circuit.now ++ sample_lines (run_under circuit.now stimulus.now) done) text.new.items) }
-    ensures begun { IsErr result → IsSentInPart (O.held out.old) (O.held out.new) (run_text (run_under circuit.now stimulus.now)) }
-    ensures write { IsErrOf result TraceFault.Write → Rose (O.faults out.old) (O.faults out.new) }
+    ensures left { IfOk result (λ done. HasLeft (O.seen out.old).held (O.seen out.new).held (header circuit.now ++ sample_lines (run_under circuit.now stimulus.now) done) text.new.items) }
+    ensures begun { IsErr result → IsSentInPart (O.seen out.old).held (O.seen out.new).held (run_text (run_under circuit.now stimulus.now)) }
+    ensures write { IsErrOf result TraceFault.Write → Rose (O.seen out.old).faults (O.seen out.new).faults }
     ensures only { IsErr result → IsErrOf result TraceFault.Write ⊎ IsErrOf result TraceFault.NoMemory }
-    ensures later { O.faults out.old ≤ O.faults out.new }
+    ensures later { (O.seen out.old).faults ≤ (O.seen out.new).faults }
 {
     length_of_run();
     let count = stimulus.count();
@@ -145,11 +145,11 @@ pub fn write_trace<O: Sink>(
     requires flat { IsFlat circuit.now }
     requires samples { AreSamples circuit.now stimulus.now }
     ensures ends { IfOk result (λ unsettled. unsettled ≡ nat_lt (run_length (run_under circuit.now stimulus.now)) (sample_count stimulus.now)) }
-    ensures printed { IfOk result (λ _. O.held out.new ≡ append_known (O.held out.old) (run_text (run_under circuit.now stimulus.now))) }
-    ensures begun { IsSentInPart (O.held out.old) (O.held out.new) (run_text (run_under circuit.now stimulus.now)) }
-    ensures write { IsErrOf result TraceFault.Write → Rose (O.faults out.old) (O.faults out.new) }
+    ensures printed { IfOk result (λ _. (O.seen out.new).held ≡ append_known (O.seen out.old).held (run_text (run_under circuit.now stimulus.now))) }
+    ensures begun { IsSentInPart (O.seen out.old).held (O.seen out.new).held (run_text (run_under circuit.now stimulus.now)) }
+    ensures write { IsErrOf result TraceFault.Write → Rose (O.seen out.old).faults (O.seen out.new).faults }
     ensures only { IsErr result → IsErrOf result TraceFault.Write ⊎ IsErrOf result TraceFault.NoMemory }
-    ensures later { O.faults out.old ≤ O.faults out.new }
+    ensures later { (O.seen out.old).faults ≤ (O.seen out.new).faults }
 {
     let mut rounds = Rounds::new(alloc, circuit)?;
     let mut inputs = zeros(alloc, circuit.inputs.len())?;

@@ -7,6 +7,12 @@ pub data File : Type 0 where
   Missing : File
   Holds : List ℕ → File
 
+-- what is seen of a shelf: what it tells of its files, and how often its reads and its writes failed
+pub record ShelfSeen : Type 0 where
+  pub file : List ℕ → File
+  pub read_faults : ℕ
+  pub write_faults : ℕ
+
 abbrev pub IsTold : File → Type 0
 IsTold Untold = ⊥
 IsTold Missing = ⊤

@@ -4,7 +4,7 @@ use Rattle.std.specs.Ordering.{nat_cmp, is_eq}
 use Rattle.std.specs.Cmp.Lexicographic.{slice_cmp}
 use Rattle.std.specs.Map.{lookup}
 use Rattle.outside.specs.Calls.{is_listed, one_more}
-use Rattle.outside.specs.Shelf.{File, Holds, Missing}
+use Rattle.outside.specs.Shelf.{File, Holds, Missing, ShelfSeen}
 
 -- the files by their names, the numbers of the calls that are to fail, the calls that were made and the faults
 pub record Shelved : Type 0 where
@@ -31,6 +31,10 @@ told (Some bytes) = Holds bytes
 -- what a shelf in memory tells of the file of this name
 abbrev pub file_in : List (List ℕ × List ℕ) → List ℕ → File
 file_in files name = told (bytes_in files name)
+
+-- what is seen of it
+abbrev pub seen_of : Shelved → ShelfSeen
+seen_of shelves = record { file = file_in shelves.files; read_faults = shelves.read_faults; write_faults = shelves.write_faults }
 
 -- the next read fails: its number is listed, or there is no such file
 abbrev pub fails_read : Shelved → List ℕ → Bool

@@ -1,8 +1,8 @@
 //! A source in memory.
-ghost use Rattle.std.specs.Prelude.{◌≡◌, ◌↔◌, ℕ, ◌<◌, length, min, Some, IsTrue};
-ghost use Rattle.outside.specs.Bytes.{new_giving};
+ghost use Rattle.std.specs.Prelude.{◌≡◌, ◌↔◌, ℕ, ◌<◌, length, min, IsTrue};
+ghost use Rattle.outside.specs.Bytes.{new_giving, seen_of};
 ghost use Rattle.outside.specs.Calls as numbers;
-ghost use Rattle.outside.specs.Source.{Gives, IsGot, SourceCause};
+ghost use Rattle.outside.specs.Source.{Gives, IsGot, SourceCause, Stays};
 
 use crate::calls::{is_listed, one_more};
 use crate::source::{Got, Source};
@@ -81,16 +81,15 @@ impl Bytes {
 }
 
 impl Source for Bytes {
-    ghost left = { λ b. Some b.left };
-
-    ghost faults = { λ b. b.faults };
+    ghost seen = { λ b. seen_of b };
 
     fn read(&mut self, buf: &mut [u8]) -> Got
         requires { 0 < length buf.old }
         ensures room { length buf.new ≡ length buf.old }
         ensures within { IsGot result (length buf.old) }
-        ensures bytes { Gives (Some self.old.left) (Some self.new.left) result buf.new }
-        ensures cause { SourceCause self.old.faults self.new.faults result }
+        ensures bytes { Gives (seen_of self.old) (seen_of self.new) result buf.new }
+        ensures stays { Stays (seen_of self.old) (seen_of self.new) result }
+        ensures cause { SourceCause (seen_of self.old) (seen_of self.new) result }
         ensures gave { (count : ℕ) → result ≡ Got.Bytes count → count ≡ min (min (length self.old.left) (length buf.old)) self.old.most }
         ensures listed { result ≡ Got.Failed ↔ IsTrue (numbers.is_listed self.old.failing self.new.calls) }
         ensures calls { self.new.calls ≡ numbers.one_more self.old.calls }

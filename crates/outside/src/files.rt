@@ -22,8 +22,8 @@ pub struct Files<R> {
 
 impl<R: rt::Files> Files<R> {
     pub fn new(rt: R) -> Files<R>
-        ensures reads { ⟦<Files<R> as Shelf>⟧.read_faults result ≡ 0 }
-        ensures writes { ⟦<Files<R> as Shelf>⟧.write_faults result ≡ 0 }
+        ensures reads { (⟦<Files<R> as Shelf>⟧.seen result).read_faults ≡ 0 }
+        ensures writes { (⟦<Files<R> as Shelf>⟧.seen result).write_faults ≡ 0 }
     {
         Files {
             rt,
@@ -36,11 +36,7 @@ impl<R: rt::Files> Files<R> {
 impl<R: rt::Files> Shelf for Files<R> {
     ghost use Rattle.outside.specs.Shelf.{Untold};
 
-    ghost file = { λ _ _. Untold };
-
-    ghost read_faults = { λ s. s.read_faults };
-
-    ghost write_faults = { λ s. s.write_faults };
+    ghost seen = { λ s. record { file = λ _. Untold; read_faults = s.read_faults; write_faults = s.write_faults } };
 
     fn read(&mut self, alloc: Global, name: &Name, limit: u64) -> Result<Vec<u8>, ShelfFault> {
         let answer = read_file(&self.rt, alloc, name, limit);

@@ -1,7 +1,7 @@
 //! A sink in memory.
-ghost use Rattle.std.specs.Prelude.{◌≡◌, ℕ, ◌<◌, length, min, Some, IfOk, IsTrue};
+ghost use Rattle.std.specs.Prelude.{◌≡◌, ℕ, ◌<◌, length, min, IfOk, IsTrue};
 ghost use Rattle.outside.specs.Calls as numbers;
-ghost use Rattle.outside.specs.Gathered.{new_gathering};
+ghost use Rattle.outside.specs.Gathered.{new_gathering, seen_of};
 ghost use Rattle.outside.specs.Sink.{IsWithin, SinkCause, Takes};
 
 use crate::calls::{is_listed, one_more};
@@ -91,15 +91,13 @@ impl Gathered {
 }
 
 impl Sink for Gathered {
-    ghost held = { λ g. Some g.bytes };
-
-    ghost faults = { λ g. g.faults };
+    ghost seen = { λ g. seen_of g };
 
     fn write(&mut self, piece: &[u8]) -> Put
         requires { 0 < length piece.now }
         ensures within { IsWithin result piece.now }
-        ensures bytes { Takes (Some self.old.bytes) (Some self.new.bytes) result piece.now }
-        ensures cause { SinkCause self.old.faults self.new.faults result }
+        ensures bytes { Takes (seen_of self.old) (seen_of self.new) result piece.now }
+        ensures cause { SinkCause (seen_of self.old) (seen_of self.new) result }
         ensures took { (count : ℕ) → result ≡ Put.Took count → count ≡ min (length piece.now) self.old.most }
         ensures listed { IsTrue (numbers.is_listed self.old.failing self.new.calls) → result ≡ Put.Failed }
         ensures calls { self.new.calls ≡ numbers.one_more self.old.calls }

@@ -1,9 +1,9 @@
 //! The standard input as a source.
-ghost use Rattle.std.specs.Prelude.{◌≡◌, ◌<◌, length, false, None, IsTrue};
+ghost use Rattle.std.specs.Prelude.{◌≡◌, ◌<◌, length, false, IsTrue};
 ghost use Rattle.std.specs.Io.{ReadsAtMost};
 ghost use Rattle.std.specs.Io.KnownBytes.{IsAtEnd, ReadConsumes};
-ghost use Rattle.outside.specs.Reader.{Hands, faults_of, is_ended, reader_of};
-ghost use Rattle.outside.specs.Source.{Gives, IsGot, SourceCause};
+ghost use Rattle.outside.specs.Reader.{Hands, faults_of, is_ended, reader_of, seen_of};
+ghost use Rattle.outside.specs.Source.{Gives, IsGot, SourceCause, Stays};
 
 use crate::calls::one_more;
 use crate::source::{Got, Source};
@@ -37,20 +37,18 @@ impl<R: Read> Reader<R> {
 }
 
 impl<R: Read> Source for Reader<R> {
-    ghost left = { λ _. None };
-
-    ghost faults = { λ s. s.faults };
+    ghost seen = { λ s. seen_of s };
 
     fn read(&mut self, buf: &mut [u8]) -> Got
         requires { 0 < length buf.old }
         ensures room { length buf.new ≡ length buf.old }
         ensures within { IsGot result (length buf.old) }
-        ensures bytes { Gives None None result buf.new }
-        ensures cause { SourceCause (faults_of self.old) (faults_of self.new) result }
+        ensures bytes { Gives (seen_of self.old) (seen_of self.new) result buf.new }
+        ensures stays { Stays (seen_of self.old) (seen_of self.new) result }
+        ensures cause { SourceCause (seen_of self.old) (seen_of self.new) result }
         ensures handed { Hands (R.remaining (reader_of self.old)) (R.remaining (reader_of self.new)) result buf.new }
         ensures ended { IsTrue (is_ended self.old) → result ≡ Got.End }
         ensures all { is_ended self.old ≡ false → result ≡ Got.End → IsAtEnd (R.remaining (reader_of self.new)) }
-        ensures stays { result ≡ Got.End → IsTrue (is_ended self.new) }
     {
         if self.ended {
             return Got::End;

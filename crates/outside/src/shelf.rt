@@ -1,7 +1,7 @@
 //! Shelves of files.
 ghost use Rattle.std.specs.Prelude.{◌≡◌, ◌≢◌, ℕ, ◌≤◌, List, IfOk, OnOk, IsErrOf, vec_len};
 ghost use Rattle.outside.specs.Faults.{Rose};
-ghost use Rattle.outside.specs.Shelf.{File, Holds, IsLonger, IsOf, IsTold};
+ghost use Rattle.outside.specs.Shelf.{Holds, IsLonger, IsOf, IsTold, ShelfSeen};
 
 use sim_base::Name;
 use std::alloc::Global;
@@ -20,37 +20,33 @@ pub enum ShelfFault {
     NoMemory,
 }
 
-/// Files by their names. `file` is what the shelf tells of the file of a name; an object that tells goes
-/// on telling. `read_faults` and `write_faults` count the faults of its reads and of its writes; a count
-/// that stands at 2^64 - 1 no longer rises.
+/// Files by their names. Seen of it is what it tells of the file of each name; an object that tells goes on
+/// telling. Seen too are the counts of the faults of its reads and of its writes; a count that stands at
+/// 2^64 - 1 no longer rises.
 pub trait Shelf {
-    ghost file: { Self → List ℕ → File };
-
-    ghost read_faults: { Self → ℕ };
-
-    ghost write_faults: { Self → ℕ };
+    ghost seen: { Self → ShelfSeen };
 
     /// All bytes of a file that has at most `limit` of them.
     fn read(&mut self, alloc: Global, name: &Name, limit: u64) -> Result<Vec<u8>, ShelfFault>
         ensures within { IfOk result (λ bytes. vec_len bytes ≤ limit) }
-        ensures bytes { IfOk result (λ bytes. IsOf (file self.old name.now) bytes.items) }
-        ensures too_long { IsErrOf result ShelfFault.TooLong → IsLonger (file self.old name.now) limit }
-        ensures failed { IsErrOf result ShelfFault.Failed → Rose (read_faults self.old) (read_faults self.new) }
-        ensures no_memory { IsErrOf result ShelfFault.NoMemory → read_faults self.new ≡ read_faults self.old }
-        ensures later { read_faults self.old ≤ read_faults self.new }
-        ensures files { (other : List ℕ) → file self.new other ≡ file self.old other }
-        ensures writes { write_faults self.new ≡ write_faults self.old };
+        ensures bytes { IfOk result (λ bytes. IsOf ((seen self.old).file name.now) bytes.items) }
+        ensures too_long { IsErrOf result ShelfFault.TooLong → IsLonger ((seen self.old).file name.now) limit }
+        ensures failed { IsErrOf result ShelfFault.Failed → Rose (seen self.old).read_faults (seen self.new).read_faults }
+        ensures no_memory { IsErrOf result ShelfFault.NoMemory → (seen self.new).read_faults ≡ (seen self.old).read_faults }
+        ensures later { (seen self.old).read_faults ≤ (seen self.new).read_faults }
+        ensures files { (other : List ℕ) → (seen self.new).file other ≡ (seen self.old).file other }
+        ensures writes { (seen self.new).write_faults ≡ (seen self.old).write_faults };
 
     /// Makes these all the bytes of the file, which is made where there is none. After `Failed` the file
     /// may hold anything, and `TooLong` never comes.
     fn write(&mut self, alloc: Global, name: &Name, bytes: &[u8]) -> Result<(), ShelfFault>
-        ensures written { OnOk result (IsTold (file self.old name.now) → file self.new name.now ≡ Holds bytes.now) }
-        ensures told { IsTold (file self.old name.now) → IsTold (file self.new name.now) }
+        ensures written { OnOk result (IsTold ((seen self.old).file name.now) → (seen self.new).file name.now ≡ Holds bytes.now) }
+        ensures told { IsTold ((seen self.old).file name.now) → IsTold ((seen self.new).file name.now) }
         ensures too_long { IsErrOf result ShelfFault.TooLong → ⊥ }
-        ensures failed { IsErrOf result ShelfFault.Failed → Rose (write_faults self.old) (write_faults self.new) }
-        ensures no_memory { IsErrOf result ShelfFault.NoMemory → write_faults self.new ≡ write_faults self.old }
-        ensures as_before { IsErrOf result ShelfFault.NoMemory → file self.new name.now ≡ file self.old name.now }
-        ensures later { write_faults self.old ≤ write_faults self.new }
-        ensures others { (other : List ℕ) → other ≢ name.now → file self.new other ≡ file self.old other }
-        ensures reads { read_faults self.new ≡ read_faults self.old };
+        ensures failed { IsErrOf result ShelfFault.Failed → Rose (seen self.old).write_faults (seen self.new).write_faults }
+        ensures no_memory { IsErrOf result ShelfFault.NoMemory → (seen self.new).write_faults ≡ (seen self.old).write_faults }
+        ensures as_before { IsErrOf result ShelfFault.NoMemory → (seen self.new).file name.now ≡ (seen self.old).file name.now }
+        ensures later { (seen self.old).write_faults ≤ (seen self.new).write_faults }
+        ensures others { (other : List ℕ) → other ≢ name.now → (seen self.new).file other ≡ (seen self.old).file other }
+        ensures reads { (seen self.new).read_faults ≡ (seen self.old).read_faults };
 }

@@ -2,7 +2,7 @@
 ghost use Rattle.std.specs.Prelude.{◌≡◌, ◌≢◌, ℕ, ◌<◌, ◌≤◌, ◌↔◌, List, length, IfOk, OnOk, OnErr, IsErrOf, IsTrue, MatchOption, vec_len};
 ghost use Rattle.outside.specs.Faults.{Rose};
 ghost use Rattle.outside.specs.Shelf.{Holds, IsLonger, IsOf, IsTold, Missing};
-ghost use Rattle.outside.specs.Shelves.{after_read, after_write, empty_shelves, fails_read, fails_write, file_in};
+ghost use Rattle.outside.specs.Shelves.{after_read, after_write, empty_shelves, fails_read, fails_write, file_in, seen_of};
 
 use crate::calls::{is_listed, one_more};
 use crate::shelf::{Shelf, ShelfFault};
@@ -119,11 +119,7 @@ impl Shelves {
 }
 
 impl Shelf for Shelves {
-    ghost file = { λ s. file_in s.files };
-
-    ghost read_faults = { λ s. s.read_faults };
-
-    ghost write_faults = { λ s. s.write_faults };
+    ghost seen = { λ s. seen_of s };
 
     fn read(&mut self, alloc: Global, name: &Name, limit: u64) -> Result<Vec<u8>, ShelfFault>
         ensures within { IfOk result (λ bytes. vec_len bytes ≤ limit) }

@@ -1,8 +1,8 @@
 //! Sinks of bytes.
-ghost use Rattle.std.specs.Prelude.{◌≡◌, ℕ, ◌<◌, ◌≤◌, List, length, Option, OnErr, OnOk};
+ghost use Rattle.std.specs.Prelude.{◌≡◌, ◌<◌, ◌≤◌, length, OnErr, OnOk};
 ghost use Rattle.std.specs.Io.KnownBytes.{append_known};
 ghost use Rattle.outside.specs.Faults.{Rose};
-ghost use Rattle.outside.specs.Sink.{IsWithin, SinkCause, Takes, TookPart};
+ghost use Rattle.outside.specs.Sink.{IsWithin, SinkCause, SinkSeen, Takes, TookPart};
 
 use thiserror::Error;
 
@@ -15,19 +15,17 @@ pub enum Put {
     Failed,
 }
 
-/// What takes bytes. `held` is all that it took, where it tells that, and `faults` counts its faults; a
+/// What takes bytes. Seen of it is all that it took, where it tells that, and the count of its faults; a
 /// count that stands at 2^64 - 1 no longer rises.
 pub trait Sink {
-    ghost held: { Self → Option (List ℕ) };
-
-    ghost faults: { Self → ℕ };
+    ghost seen: { Self → SinkSeen };
 
     /// Takes bytes of the piece from its first on: one at least, or it fails.
     fn write(&mut self, piece: &[u8]) -> Put
         requires { 0 < length piece.now }
         ensures within { IsWithin result piece.now }
-        ensures bytes { Takes (held self.old) (held self.new) result piece.now }
-        ensures cause { SinkCause (faults self.old) (faults self.new) result };
+        ensures bytes { Takes (seen self.old) (seen self.new) result piece.now }
+        ensures cause { SinkCause (seen self.old) (seen self.new) result };
 }
 
 /// A sink failed.
@@ -37,11 +35,11 @@ pub struct SinkFault;
 
 /// Writes all of the bytes, in as many pieces as the sink asks for. No bytes are written without a call.
 pub fn put_all<K: Sink>(sink: &mut K, bytes: &[u8]) -> Result<(), SinkFault>
-    ensures ok { OnOk result (K.held sink.new ≡ append_known (K.held sink.old) bytes.now) }
-    ensures err { OnErr result (TookPart (K.held sink.old) (K.held sink.new) bytes.now) }
-    ensures unfailed { OnOk result (K.faults sink.new ≡ K.faults sink.old) }
-    ensures failed { OnErr result (Rose (K.faults sink.old) (K.faults sink.new)) }
-    ensures later { K.faults sink.old ≤ K.faults sink.new }
+    ensures ok { OnOk result ((K.seen sink.new).held ≡ append_known (K.seen sink.old).held bytes.now) }
+    ensures err { OnErr result (TookPart (K.seen sink.old).held (K.seen sink.new).held bytes.now) }
+    ensures unfailed { OnOk result ((K.seen sink.new).faults ≡ (K.seen sink.old).faults) }
+    ensures failed { OnErr result (Rose (K.seen sink.old).faults (K.seen sink.new).faults) }
+    ensures later { (K.seen sink.old).faults ≤ (K.seen sink.new).faults }
 {
     let mut done = 0;
     while done < bytes.len() {

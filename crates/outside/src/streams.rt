@@ -1,7 +1,7 @@
 //! The standard streams as sinks.
-ghost use Rattle.std.specs.Prelude.{◌≡◌, ◌<◌, length, None};
+ghost use Rattle.std.specs.Prelude.{◌≡◌, ◌<◌, length};
 ghost use Rattle.outside.specs.Sink.{IsWithin, SinkCause, Takes};
-ghost use Rattle.outside.specs.Stream.{Hands, faults_of, writer_of};
+ghost use Rattle.outside.specs.Stream.{Hands, faults_of, seen_of, writer_of};
 
 use crate::calls::one_more;
 use crate::sink::{Put, Sink};
@@ -31,15 +31,13 @@ impl<W: Write> Stream<W> {
 }
 
 impl<W: Write> Sink for Stream<W> {
-    ghost held = { λ _. None };
-
-    ghost faults = { λ s. s.faults };
+    ghost seen = { λ s. seen_of s };
 
     fn write(&mut self, piece: &[u8]) -> Put
         requires { 0 < length piece.now }
         ensures within { IsWithin result piece.now }
-        ensures bytes { Takes None None result piece.now }
-        ensures cause { SinkCause (faults_of self.old) (faults_of self.new) result }
+        ensures bytes { Takes (seen_of self.old) (seen_of self.new) result piece.now }
+        ensures cause { SinkCause (seen_of self.old) (seen_of self.new) result }
         ensures handed { Hands (W.contents (writer_of self.old)) (W.contents (writer_of self.new)) result piece.now }
     {
         match self.writer.write(piece) {

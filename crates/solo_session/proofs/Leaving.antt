@@ -1,5 +1,5 @@
 -- What was read and sent when a session ends, or when memory is wanting.
-use Rattle.std.proofs.Common.{◌≡◌, ℕ, ◌+◌, ◌≤◌, List, [], ◌∷◌, ◌++◌, length, map, refl, sym, ap, subst, arith, ◌∙◌, append-nil, Option, true, false, inl, inr, length-append, Ok, Err}
+use Rattle.std.proofs.Common.{◌≡◌, ℕ, ◌+◌, ◌≤◌, List, [], ◌∷◌, ◌++◌, length, map, refl, sym, ap, subst, arith, ◌∙◌, append-nil, Option, Some, true, false, inl, inr, length-append, Ok, Err}
 use Rattle.std.specs.Prelude.{OnErr}
 use Rattle.std.specs.declared.result.Result.{Result}
 use Rattle.std.specs.Io.KnownBytes.{append_known, prepend_known}
@@ -10,11 +10,13 @@ use Rattle.hall_core.specs.declared.entry.Entry.{Entry}
 use Rattle.hall_core.specs.declared.entry.Entry.TheVariants as entry
 use Rattle.hall_core.specs.declared.entry.Why.TheVariants as why
 use Rattle.solo_session.specs.Pace.{course, input_limit, opening, packets_of, solo_history, with_packets}
-use Rattle.solo_session.specs.Reading.{HasRead, IsReading}
+use Rattle.solo_session.specs.Reading.{HasRead, IsOutputCause, IsReading}
 use Rattle.session_core.specs.Said.{said, said_behind}
 use Rattle.solo_session.specs.Session.{Conversation}
-use Rattle.solo_session.specs.Solo.{IsBroken, IsCutOff, IsEnded, IsEndedBy, IsReadOf, IsServedTo, IsWanting, IsWhole, Start, due}
-use Rattle.outside.specs.Sink.{IsSentInPart}
+use Rattle.solo_session.specs.Solo.{IsBroken, IsCause, IsCutOff, IsEnded, IsEndedBy, IsReadOf, IsServedTo, IsWanting, IsWhole, Start, due}
+use Rattle.outside.specs.Faults.{Rose}
+use Rattle.outside.specs.Sink.{IsSentInPart, SinkSeen}
+use Rattle.outside.specs.Source.{SourceSeen}
 use Rattle.solo_session.specs.declared.solo.Ending.{Ending}
 use Rattle.solo_session.specs.declared.solo.Ending.TheVariants as ending
 use Rattle.outside.proofs.SinkLemmas.{sent_all}
@@ -157,3 +159,10 @@ whole_wanting start left held history given ends w = record {
 
 pub reading_wanting : (start : Start) (left held : Option (List ℕ)) (s : Conversation) (rest : List ℕ) (taken : ℕ) → IsReading start left held s rest taken → IsWanting start held
 reading_wanting start left held s rest taken reading = broken_wanting start held (s.history ++ entry.Close 0 why.Fault ∷ entry.End ∷ []) (reading_breaks start left held s rest taken reading)
+
+-- what an ending says of the output's count holds of both counts, where these stood still before
+pub cause_behind : (ends : Ending) (input here : SourceSeen) (out before now : SinkSeen) → here.faults ≡ input.faults → before.faults ≡ out.faults → IsOutputCause (Some ends) before now → IsCause ends input here out now
+cause_behind ending.Served input here out before now same still is = (same, (is input).1 ∙ still)
+cause_behind ending.Limit input here out before now same still is = (same, (is input).1 ∙ still)
+cause_behind ending.InputFailed input here out before now same still is = (subst (λ n. Rose input.faults n) (sym same) (is input).0, (is input).1 ∙ still)
+cause_behind ending.OutputFailed input here out before now same still is = (same, subst (λ n. Rose n now.faults) still (is input).1)

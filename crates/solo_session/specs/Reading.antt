@@ -7,7 +7,8 @@ use Rattle.solo_session.specs.Session.{HasServed, Conversation}
 use Rattle.solo_session.specs.Solo.{IsCause, IsEnded, Start}
 use Rattle.solo_session.specs.declared.solo.Ending.{Ending}
 use Rattle.solo_session.specs.declared.solo.Ending.TheVariants as ending
-use Rattle.outside.specs.Sink.{TookPart}
+use Rattle.outside.specs.Sink.{SinkSeen, TookPart}
+use Rattle.outside.specs.Source.{SourceSeen}
 
 -- so many bytes were read, of which the rest is in no packet yet; the packets of the others were served, and this is what
 -- they were to be told
@@ -33,9 +34,9 @@ IsTurn start left held s rest taken None = IsReading start left held s rest take
 IsTurn start left held s rest taken (Some ends) = IsEnded start left held s.history ends
 
 -- the output's count of faults, where it goes on or has ended and the input did not fail
-abbrev pub IsOutputCause : Option Ending → ℕ → ℕ → Type 0
-IsOutputCause None output output_now = output_now ≡ output
-IsOutputCause (Some ends) output output_now = (input : ℕ) → IsCause ends input input output output_now
+abbrev pub IsOutputCause : Option Ending → SinkSeen → SinkSeen → Type 0
+IsOutputCause None out out_now = out_now.faults ≡ out.faults
+IsOutputCause (Some ends) out out_now = (input : SourceSeen) → IsCause ends input input out out_now
 
 -- what a text left of the output, by how the session ended behind it
 abbrev pub IsSentBy : Ending → Option (List ℕ) → Option (List ℕ) → List ℕ → Type 0

@@ -9,8 +9,8 @@ use Rattle.hall_core.specs.declared.entry.Entry.{Entry}
 use Rattle.hall_core.specs.declared.entry.Entry.TheVariants as entry
 use Rattle.hall_core.specs.declared.entry.Why.TheVariants as why
 use Rattle.outside.specs.Faults.{Rose}
-use Rattle.outside.specs.Sink.{IsSentInPart, TookPart}
-use Rattle.outside.specs.Source.{IsInput}
+use Rattle.outside.specs.Sink.{IsSentInPart, SinkSeen, TookPart}
+use Rattle.outside.specs.Source.{IsInput, SourceSeen}
 use Rattle.solo_session.specs.Pace.{batches, course, input_limit, opening, packets_of, piece_limit, solo_history, with_packets}
 use Rattle.session_core.specs.Said.{Agrees, said}
 use Rattle.solo_session.specs.declared.solo.Ending.{Ending}
@@ -21,6 +21,9 @@ pub record Start : Type 0 where
   pub run : Run
   pub left : Option (List ℕ)
   pub held : Option (List ℕ)
+
+abbrev pub start_of : Run → SourceSeen → SinkSeen → Start
+start_of run input out = record { run = run; left = input.left; held = out.held }
 
 -- the history may be one of the run, and its packets are the client's
 pub record IsSession (run : Run) (bytes : List ℕ) (history : List Entry) : Type 0 where
@@ -136,8 +139,8 @@ pub record IsWanting (start : Start) (held : Option (List ℕ)) : Type 0 where
   pub sent : IsSentInPart start.held held (said start.run (packets_of bytes) 0 (solo_history start.run bytes))
 
 -- the count of faults that rose is that of the object that failed, and no other did
-abbrev pub IsCause : Ending → ℕ → ℕ → ℕ → ℕ → Type 0
-IsCause ending.Served input input_now output output_now = (input_now ≡ input) × (output_now ≡ output)
-IsCause ending.Limit input input_now output output_now = (input_now ≡ input) × (output_now ≡ output)
-IsCause ending.InputFailed input input_now output output_now = Rose input input_now × (output_now ≡ output)
-IsCause ending.OutputFailed input input_now output output_now = (input_now ≡ input) × Rose output output_now
+abbrev pub IsCause : Ending → SourceSeen → SourceSeen → SinkSeen → SinkSeen → Type 0
+IsCause ending.Served input input_now out out_now = (input_now.faults ≡ input.faults) × (out_now.faults ≡ out.faults)
+IsCause ending.Limit input input_now out out_now = (input_now.faults ≡ input.faults) × (out_now.faults ≡ out.faults)
+IsCause ending.InputFailed input input_now out out_now = Rose input.faults input_now.faults × (out_now.faults ≡ out.faults)
+IsCause ending.OutputFailed input input_now out out_now = (input_now.faults ≡ input.faults) × Rose out.faults out_now.faults

@@ -10,7 +10,7 @@ ghost use Rattle.session_core.specs.Said.{last_words};
 ghost use Rattle.solo_session.specs.Pace.{input_limit, piece_limit};
 ghost use Rattle.solo_session.specs.Reading.{IsOutputCause, IsReading, IsSentBy, IsTurn};
 ghost use Rattle.solo_session.specs.Session.{HasServed, IsServing, conversation};
-ghost use Rattle.solo_session.specs.Solo.{IsCause, IsEnded, IsWanting, Start};
+ghost use Rattle.solo_session.specs.Solo.{IsCause, IsEnded, IsWanting, Start, start_of};
 
 use crate::session::Session;
 use frame_zero::Framer;
@@ -47,8 +47,8 @@ fn read_piece<I: Source>(input: &mut I, piece: &mut [u8], taken: usize) -> Got
     ensures within { IsGot result (length piece.old) }
     ensures limit { (count : ℕ) → result ≡ Got.Bytes count → taken < input_limit → taken + count ≤ input_limit }
     ensures one { (count : ℕ) → result ≡ Got.Bytes count → taken ≡ input_limit → count ≤ 1 }
-    ensures bytes { Gives (I.left input.old) (I.left input.new) result piece.new }
-    ensures cause { SourceCause (I.faults input.old) (I.faults input.new) result }
+    ensures bytes { Gives (I.seen input.old) (I.seen input.new) result piece.new }
+    ensures cause { SourceCause (I.seen input.old) (I.seen input.new) result }
 {
     let most = (LIMIT - taken).max(1).min(piece.len());
     input.read(&mut piece[..most])
@@ -82,10 +82,10 @@ fn refuse<F: Followed, O: Sink>(
 ) -> Result<Ending, NoMemory>
     requires { IsServing (F.run session.old.samples) (replay session.old.history) }
     ensures session { OnOk result (session.new ≡ record session.old { history = session.old.history ++ entries.Close 0 whys.TooLong ∷ entries.End ∷ [] }) }
-    ensures sent { IfOk result (λ ending. IsSentBy ending (O.held out.old) (O.held out.new) (text.old.items ++ last_words whys.TooLong)) }
-    ensures wanting { OnErr result (O.held out.new ≡ O.held out.old) }
-    ensures cause { IfOk result (λ ending. IsOutputCause (Some ending) (O.faults out.old) (O.faults out.new)) }
-    ensures later { O.faults out.old ≤ O.faults out.new }
+    ensures sent { IfOk result (λ ending. IsSentBy ending (O.seen out.old).held (O.seen out.new).held (text.old.items ++ last_words whys.TooLong)) }
+    ensures wanting { OnErr result ((O.seen out.new).held ≡ (O.seen out.old).held) }
+    ensures cause { IfOk result (λ ending. IsOutputCause (Some ending) (O.seen out.old) (O.seen out.new)) }
+    ensures later { (O.seen out.old).faults ≤ (O.seen out.new).faults }
 {
     session.close(alloc, Why::TooLong, text)?;
     match put_all(out, text) {
@@ -106,13 +106,13 @@ pub fn answer_piece<F: Followed, O: Sink>(
     requires serving { IsServing (F.run session.old.samples) (replay session.old.history) }
     requires few { length piece.now ≤ piece_limit }
     // Where all that was due for what was read before was sent, all that is due is sent, this piece read too.
-    ensures turn { IfOk result (λ turn. (start : Start) (left : Option (List ℕ)) (taken : ℕ) → IsReading start (prepend_known piece.now left) (O.held out.old) (conversation F.run session.old) framer.old taken → taken + length piece.now ≤ input_limit
-        → IsTurn start left (O.held out.new) (conversation F.run session.new) framer.new (taken + length piece.now) turn) }
-    ensures wanting { OnErr result ((start : Start) (left : Option (List ℕ)) (taken : ℕ) → IsReading start (prepend_known piece.now left) (O.held out.old) (conversation F.run session.old) framer.old taken → taken + length piece.now ≤ input_limit
-        → IsWanting start (O.held out.new)) }
+    ensures turn { IfOk result (λ turn. (start : Start) (left : Option (List ℕ)) (taken : ℕ) → IsReading start (prepend_known piece.now left) (O.seen out.old).held (conversation F.run session.old) framer.old taken → taken + length piece.now ≤ input_limit
+        → IsTurn start left (O.seen out.new).held (conversation F.run session.new) framer.new (taken + length piece.now) turn) }
+    ensures wanting { OnErr result ((start : Start) (left : Option (List ℕ)) (taken : ℕ) → IsReading start (prepend_known piece.now left) (O.seen out.old).held (conversation F.run session.old) framer.old taken → taken + length piece.now ≤ input_limit
+        → IsWanting start (O.seen out.new).held) }
     ensures run { OnOk result (session.new.samples ≡ session.old.samples) }
-    ensures cause { IfOk result (λ turn. IsOutputCause turn (O.faults out.old) (O.faults out.new)) }
-    ensures later { O.faults out.old ≤ O.faults out.new }
+    ensures cause { IfOk result (λ turn. IsOutputCause turn (O.seen out.old) (O.seen out.new)) }
+    ensures later { (O.seen out.old).faults ≤ (O.seen out.new).faults }
 {
     framer.feed(piece)?;
     let mut text = Vec::new(alloc);
@@ -136,13 +136,13 @@ fn finish<F: Followed, O: Sink>(
     out: &mut O,
 ) -> Result<Ending, NoMemory>
     requires { IsServing (F.run session.old.samples) (replay session.old.history) }
-    ensures ended { IfOk result (λ ending. (start : Start) (left : Option (List ℕ)) (rest : List ℕ) (taken : ℕ) → IsReading start left (O.held out.old) (conversation F.run session.old) rest taken → IsAtEnd left
-        → IsEnded start left (O.held out.new) session.new.history ending) }
-    ensures wanting { OnErr result ((start : Start) (left : Option (List ℕ)) (rest : List ℕ) (taken : ℕ) → IsReading start left (O.held out.old) (conversation F.run session.old) rest taken → IsAtEnd left
-        → IsWanting start (O.held out.new)) }
+    ensures ended { IfOk result (λ ending. (start : Start) (left : Option (List ℕ)) (rest : List ℕ) (taken : ℕ) → IsReading start left (O.seen out.old).held (conversation F.run session.old) rest taken → IsAtEnd left
+        → IsEnded start left (O.seen out.new).held session.new.history ending) }
+    ensures wanting { OnErr result ((start : Start) (left : Option (List ℕ)) (rest : List ℕ) (taken : ℕ) → IsReading start left (O.seen out.old).held (conversation F.run session.old) rest taken → IsAtEnd left
+        → IsWanting start (O.seen out.new).held) }
     ensures run { OnOk result (session.new.samples ≡ session.old.samples) }
-    ensures cause { IfOk result (λ ending. IsOutputCause (Some ending) (O.faults out.old) (O.faults out.new)) }
-    ensures later { O.faults out.old ≤ O.faults out.new }
+    ensures cause { IfOk result (λ ending. IsOutputCause (Some ending) (O.seen out.old) (O.seen out.new)) }
+    ensures later { (O.seen out.old).faults ≤ (O.seen out.new).faults }
 {
     let mut text = Vec::new(alloc);
     session.run_out(alloc, &mut text)?;
@@ -168,12 +168,12 @@ pub fn serve<F: Followed, I: Source, O: Sink>(
     out: &mut O,
 ) -> Result<Ending, NoMemory>
     requires { HasServed [] (conversation F.run session.old) [] }
-    ensures ended { IfOk result (λ ending. IsEnded (record { run = F.run session.old.samples; left = I.left input.old; held = O.held out.old }) (I.left input.new) (O.held out.new) session.new.history ending) }
-    ensures wanting { OnErr result (IsWanting (record { run = F.run session.old.samples; left = I.left input.old; held = O.held out.old }) (O.held out.new)) }
+    ensures ended { IfOk result (λ ending. IsEnded (start_of (F.run session.old.samples) (I.seen input.old) (O.seen out.old)) (I.seen input.new).left (O.seen out.new).held session.new.history ending) }
+    ensures wanting { OnErr result (IsWanting (start_of (F.run session.old.samples) (I.seen input.old) (O.seen out.old)) (O.seen out.new).held) }
     ensures run { OnOk result (session.new.samples ≡ session.old.samples) }
-    ensures cause { IfOk result (λ ending. IsCause ending (I.faults input.old) (I.faults input.new) (O.faults out.old) (O.faults out.new)) }
-    ensures later_input { I.faults input.old ≤ I.faults input.new }
-    ensures later_output { O.faults out.old ≤ O.faults out.new }
+    ensures cause { IfOk result (λ ending. IsCause ending (I.seen input.old) (I.seen input.new) (O.seen out.old) (O.seen out.new)) }
+    ensures later_input { (I.seen input.old).faults ≤ (I.seen input.new).faults }
+    ensures later_output { (O.seen out.old).faults ≤ (O.seen out.new).faults }
 {
     let mut framer = Framer::new(alloc)?;
     let mut piece = vec![in alloc; 0u8; PIECE]?;

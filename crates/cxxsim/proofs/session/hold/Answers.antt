@@ -1,7 +1,6 @@
 use Rattle.std.proofs.Common.{◌∙◌, Ok, ap, refl}
 use Rattle.flat_run.specs.Run.{Sampled}
 use Rattle.solo_session.specs.Session.{Over}
-use Rattle.cxxsim.specs.Outside.{told}
 use Rattle.cxxsim.proofs.Holding.{served_is_held, unserved_is_held}
 use Rattle.cxxsim.proofs.session.hold.Goals as goal
 
@@ -12,6 +11,6 @@ pub returns-else-branch-clause-held : goal.returns-else-branch-clause-held
 returns-else-branch-clause-held g c =
     let none = c.open.ensures.unsettled (c.in_ok-open.was ∙ ap Ok c.if-branch.false) in
     unserved_is_held c.args.session.now.samples
-    (told (g.I.Source.left c.args.input.now) (g.I.Source.left c.args.input.now) (g.I.Source.faults c.args.input.now) (g.I.Source.faults c.args.input.now))
-    (told (g.O.Sink.held c.args.out.now) (g.O.Sink.held c.args.out.now) (g.O.Sink.faults c.args.out.now) (g.O.Sink.faults c.args.out.now))
-    c.open.new.self.history none.0 c.requires.some (ap (λ (s : Over Sampled). s.history) none.1) refl refl refl refl
+    (g.I.Source.seen c.args.input.now) (g.I.Source.seen c.args.input.now)
+    (g.O.Sink.seen c.args.out.now) (g.O.Sink.seen c.args.out.now)
+    c.open.new.self.history none.0 c.requires.some (ap (λ (s : Over Sampled). s.history) none.1) refl refl

@@ -5,5 +5,5 @@ use Rattle.cxxsim.proofs.tracing.flush.Goals as goal
 
 pub returns-in-Err-clause-begun : goal.returns-in-Err-clause-begun
 returns-in-Err-clause-begun g c =
-    begun_part (g.O.Sink.held c.args.out.now) (g.O.Sink.held c.put_all.new.sink) c.args.text.now.items
-    (subst (λ (bytes : List ℕ). TookPart (g.O.Sink.held c.args.out.now) (g.O.Sink.held c.put_all.new.sink) bytes) c.deref.ensures.value c.in-Err.ensures.err)
+    begun_part (g.O.Sink.seen c.args.out.now).held (g.O.Sink.seen c.put_all.new.sink).held c.args.text.now.items
+    (subst (λ (bytes : List ℕ). TookPart (g.O.Sink.seen c.args.out.now).held (g.O.Sink.seen c.put_all.new.sink).held bytes) c.deref.ensures.value c.in-Err.ensures.err)

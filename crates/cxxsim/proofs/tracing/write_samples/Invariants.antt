@@ -12,8 +12,8 @@ invariant-loop-done g l = record {
   room : length l.inputs ≡ length l.circuit.inputs;
   fits : IsStandingOf l.circuit l.rounds;
   stands : standing_after (run_under l.circuit l.stimulus) l.done ≡ Some l.rounds;
-  printed : HasLeft (g.O.Sink.held l.fn.out) (g.O.Sink.held l.out) (header l.circuit ++ sample_lines (run_under l.circuit l.stimulus) l.done) l.text.items;
-  later : g.O.Sink.faults l.fn.out ≤ g.O.Sink.faults l.out;
+  printed : HasLeft (g.O.Sink.seen l.fn.out).held (g.O.Sink.seen l.out).held (header l.circuit ++ sample_lines (run_under l.circuit l.stimulus) l.done) l.text.items;
+  later : (g.O.Sink.seen l.fn.out).faults ≤ (g.O.Sink.seen l.out).faults;
 }
 
 abbrev pub decreases-loop-done : goal.decreases-loop-done

@@ -9,6 +9,6 @@ loop-done-preserved g c = record {
   inside = omega (arith, c.in-Took.ensures.within);
   held = (rw take_rest at c.in-Took.ensures.bytes)
       ∙ ap (λ known. append_known known (take c.in-Took.count (drop c.loop-done.done c.args.bytes.now))) c.loop-done.invariant.held
-      ∙ append_known-take (g.K.Sink.held c.args.sink.now) c.loop-done.done c.in-Took.count c.args.bytes.now;
+      ∙ append_known-take (g.K.Sink.seen c.args.sink.now).held c.loop-done.done c.in-Took.count c.args.bytes.now;
   unfailed = c.in-Took.ensures.cause ∙ c.loop-done.invariant.unfailed;
 }
