@@ -1,14 +1,14 @@
 -- What a call leaves is what its status says.
 use Rattle.std.proofs.Common.{◌≡◌, ℕ, List, [], ◌∷◌, Bool, true, false, Option, Some, None, refl, sym, ◌∙◌, ap, subst, arith, inl, inr, ◌<◌, ◌≤◌, length}
-use Rattle.std.specs.Prelude.{option_and_then}
+use Rattle.std.specs.Prelude.{IsSome, Result, Ok, Err, option_and_then}
 use Rattle.circuit.specs.declared.netlist.Circuit.{Circuit}
 use Rattle.flat_stimulus.specs.Block.{Block}
 use Rattle.flat_stimulus.specs.Text.{block_of}
 use Rattle.outside.specs.Shelf.{File, Holds, IsLonger, IsOf, IsTold, Missing, Untold}
 use Rattle.solo_session.specs.declared.solo.Ending.{Ending}
 use Rattle.solo_session.specs.declared.solo.Ending.TheVariants as ending
-use Rattle.cxxsim.specs.Answers.{IsAnswered, IsClosed, IsDoneBy, IsFaultOf, IsLimitedBy, IsMisused, IsRefused, IsToldOf, IsUnreadBy, IsUntraced, IsUnwrittenBy, IsWantingBy, HasEnded, Task, task}
-use Rattle.cxxsim.specs.Outcome.{Went, WentBy, ended_status, status_of}
+use Rattle.cxxsim.specs.Answers.{IsAnswered, IsClosed, IsDoneBy, IsFaultOf, IsIdle, IsLimitedBy, IsMisused, IsRefused, IsToldOf, IsUnreadBy, IsUntraced, IsUnwrittenBy, IsWantingBy, HasEnded, Task, task}
+use Rattle.cxxsim.specs.Outcome.{ServedAs, TracedAs, WentBy, ended_status, if_logged, served_status, status_of, traced_status}
 use Rattle.cxxsim.specs.Outside.{Outside}
 use Rattle.cxxsim.specs.Trace.{HasLongStimulus, HasNoDesign, HasNoStimulus, IsFault, IsRun, design_circuit}
 use Rattle.cxxsim.specs.declared.command.Command.{Command}
@@ -19,6 +19,10 @@ use Rattle.cxxsim.specs.declared.outcome.Outcome.TheVariants as outcome
 use Rattle.cxxsim.specs.declared.refusal.Refusal.{Refusal}
 use Rattle.cxxsim.specs.declared.refusal.Refusal.TheVariants as refusal
 use Rattle.cxxsim.specs.declared.session.Closed.{Closed}
+use Rattle.cxxsim.specs.declared.tracing.TraceFault.{TraceFault}
+use Rattle.cxxsim.specs.declared.tracing.TraceFault.TheVariants as fault
+use Rattle.sim_base.specs.declared.memory.NoMemory.{NoMemory}
+use Rattle.cxxsim.proofs.Following.{wanting_by}
 
 -- ---- files that have a run have no fault
 
@@ -249,28 +253,37 @@ unread_by : (t : Task) (m : Mode) → WentBy t m outcome.Unread → IsUnreadBy t
 unread_by t mode.Trace is = is
 unread_by t mode.Solo is = inl is
 
+traced_answers : (limit : ℕ) (before now : Outside) (c : Command) (traced : Result Bool TraceFault) → c.mode ≡ mode.Trace → TracedAs (task limit before now c) traced → IsAnswered limit (Some c) before now (traced_status traced)
+traced_answers limit before now c (Ok false) m is =
+    done_whole limit before now c (in_mode (IsDoneBy (task limit before now c) false) c.mode mode.Trace m is) (unfaulty_run limit before now c is.0.circuit is.0.block is.0.is_run)
+traced_answers limit before now c (Ok true) m is =
+    done_short limit before now c (in_mode (IsDoneBy (task limit before now c) true) c.mode mode.Trace m is) (unfaulty_run limit before now c is.0.circuit is.0.block is.0.is_run)
+traced_answers limit before now c (Err fault.Write) m is =
+    unwritten limit before now c (in_mode (IsUnwrittenBy (task limit before now c)) c.mode mode.Trace m is) (unfaulty_run limit before now c is.run.0 is.run.1 is.run.2)
+traced_answers limit before now c (Err fault.NoMemory) m is = wanting limit before now c (in_mode (IsWantingBy (task limit before now c)) c.mode mode.Trace m is)
+
+served_answers : (limit : ℕ) (before now : Outside) (c : Command) (served : Result Closed NoMemory) → c.mode ≡ mode.Solo → ServedAs (task limit before now c) served → IsAnswered limit (Some c) before now (served_status served)
+served_answers limit before now c (Ok k) m is = closed_answers limit before now c m k.ending k.unsettled k.logged is
+served_answers limit before now c (Err e) m is = wanting limit before now c (in_mode (IsWantingBy (task limit before now c)) c.mode mode.Solo m is)
+
+-- a call with a command answers what it left
 pub answers_by : (limit : ℕ) (before now : Outside) (c : Command) (o : Outcome) → WentBy (task limit before now c) c.mode o → IsAnswered limit (Some c) before now (status_of o)
-answers_by limit before now c (outcome.Misused logged) is = absurd is
 answers_by limit before now c outcome.Unread is = unread limit before now c (unread_by (task limit before now c) c.mode is)
 answers_by limit before now c (outcome.Refused r true) is = refused limit before now c (r, is.0, is.1, is.2, is.3)
 answers_by limit before now c (outcome.Refused r false) is = refused_unlogged limit before now c (r, is.0, is.1, is.2, is.3)
-answers_by limit before now c (outcome.Traced false) (m, is) =
-    done_whole limit before now c (in_mode (IsDoneBy (task limit before now c) false) c.mode mode.Trace m is) (unfaulty_run limit before now c is.0.circuit is.0.block is.0.is_run)
-answers_by limit before now c (outcome.Traced true) (m, is) =
-    done_short limit before now c (in_mode (IsDoneBy (task limit before now c) true) c.mode mode.Trace m is) (unfaulty_run limit before now c is.0.circuit is.0.block is.0.is_run)
-answers_by limit before now c outcome.Untraced (m, is) =
-    unwritten limit before now c (in_mode (IsUnwrittenBy (task limit before now c)) c.mode mode.Trace m is) (unfaulty_run limit before now c is.run.0 is.run.1 is.run.2)
-answers_by limit before now c (outcome.Closed k) (m, is) = closed_answers limit before now c m k.ending k.unsettled k.logged is
+answers_by limit before now c (outcome.Traced traced) (m, is) = traced_answers limit before now c traced m is
+answers_by limit before now c (outcome.Served served) (m, is) = served_answers limit before now c served m is
 answers_by limit before now c outcome.NoMemory is = wanting limit before now c is
 
--- a call answers what it left
-pub answers : (limit : ℕ) (asked : Option Command) (before now : Outside) (o : Outcome) → Went limit asked before now o → IsAnswered limit asked before now (status_of o)
-answers limit None before now (outcome.Misused true) is = misused limit before now is
-answers limit None before now (outcome.Misused false) is = misused_unlogged limit before now is
-answers limit None before now outcome.Unread is = absurd is
-answers limit None before now (outcome.Refused r logged) is = absurd is
-answers limit None before now (outcome.Traced unsettled) is = absurd is
-answers limit None before now outcome.Untraced is = absurd is
-answers limit None before now (outcome.Closed k) is = absurd is
-answers limit None before now outcome.NoMemory is = absurd is
-answers limit (Some c) before now o is = answers_by limit before now c o is
+-- words that do not fit
+pub answers_misuse : (limit : ℕ) (asked : Option Command) (before now : Outside) (logged : Bool) → asked ≡ None → IsMisused None before now logged → IsAnswered limit asked before now (if_logged logged 2)
+answers_misuse limit asked before now true none is = subst (λ (z : Option Command). IsAnswered limit z before now 2) (sym none) (misused limit before now is)
+answers_misuse limit asked before now false none is = subst (λ (z : Option Command). IsAnswered limit z before now 5) (sym none) (misused_unlogged limit before now is)
+
+nothing : IsSome {T = Command} None → ⊥
+nothing e = cc
+
+-- no memory for words that fit
+pub answers_wanting : (limit : ℕ) (asked : Option Command) (before now : Outside) → IsSome asked → IsIdle before now → IsAnswered limit asked before now 8
+answers_wanting limit None before now some idle = absurd (nothing some)
+answers_wanting limit (Some c) before now some idle = wanting limit before now c (wanting_by (task limit before now c) c.mode idle)

@@ -3,17 +3,17 @@ ghost use Rattle.std.specs.Prelude.{◌≡◌, ◌≤◌, ℕ, IfOk, IsSome, Lis
 ghost use Rattle.flat_design.specs.Flat.{IsFlat};
 ghost use Rattle.flat_run.specs.Run.{AreSamples};
 ghost use Rattle.cxxsim.specs.Answers.{IsAnswered, file_limit, task};
-ghost use Rattle.cxxsim.specs.Outcome.{FollowedAs, TracedAs, Went, WentBy};
+ghost use Rattle.cxxsim.specs.Outcome.{WentBy};
 ghost use Rattle.cxxsim.specs.Outside.{IsLater, IsQuiet, outside_of};
 ghost use Rattle.cxxsim.specs.Solo.{IsSentAtMost, IsSessionOf};
 ghost use Rattle.cxxsim.specs.Words.{command_of};
 
 use crate::command::{Command, Mode};
-use crate::outcome::Outcome;
+use crate::outcome::{Outcome, if_logged};
 use crate::reading::{Loaded, load};
 use crate::refusal::LoadFault;
 use crate::session::{Closed, converse, put_log};
-use crate::tracing::{TraceFault, write_trace};
+use crate::tracing::write_trace;
 use crate::words::{WordsFault, read_words};
 use flat_run::FlatRun;
 use outside::{Shelf, Sink, Source};
@@ -34,20 +34,6 @@ fn given(name: &Option<Name>) -> &Name
     match name {
         Some(name) => name,
         None => unreachable!(),
-    }
-}
-
-/// Prints the trace of a run.
-fn trace<O: Sink>(alloc: Global, loaded: &Loaded, out: &mut O) -> Outcome
-    requires flat { IsFlat loaded.now.circuit }
-    requires samples { AreSamples loaded.now.circuit loaded.now.stimulus }
-    ensures outcome { TracedAs loaded.now.circuit loaded.now.stimulus (O.seen out.old) (O.seen out.new) result }
-    ensures later { (O.seen out.old).faults ≤ (O.seen out.new).faults }
-{
-    match write_trace(alloc, &loaded.circuit, &loaded.stimulus, out) {
-        Ok(unsettled) => Outcome::Traced(unsettled),
-        Err(TraceFault::Write) => Outcome::Untraced,
-        Err(TraceFault::NoMemory) => Outcome::NoMemory,
     }
 }
 
@@ -72,31 +58,6 @@ fn serve_one<I: Source, O: Sink, G: Sink>(
     converse(alloc, run, input, out, log)
 }
 
-/// Follows a run as a mode asks.
-fn follow<I: Source, O: Sink, G: Sink>(
-    alloc: Global,
-    mode: Mode,
-    loaded: Loaded,
-    input: &mut I,
-    out: &mut O,
-    log: &mut G,
-) -> Outcome
-    requires flat { IsFlat loaded.circuit }
-    requires samples { AreSamples loaded.circuit loaded.stimulus }
-    ensures followed { FollowedAs loaded.circuit loaded.stimulus (I.seen input.old) (I.seen input.new) (O.seen out.old) (O.seen out.new) (G.seen log.old) (G.seen log.new) mode result }
-    ensures input_later { (I.seen input.old).faults ≤ (I.seen input.new).faults }
-    ensures out_later { (O.seen out.old).faults ≤ (O.seen out.new).faults }
-    ensures log_later { (G.seen log.old).faults ≤ (G.seen log.new).faults }
-{
-    match mode {
-        Mode::Trace => trace(alloc, &loaded, out),
-        Mode::Solo => match serve_one(alloc, loaded, input, out, log) {
-            Ok(closed) => Outcome::Closed(closed),
-            Err(NoMemory) => Outcome::NoMemory,
-        },
-    }
-}
-
 /// Does what a command asks for, with files of at most so many bytes.
 pub(crate) fn run<S: Shelf, I: Source, O: Sink, G: Sink>(
     alloc: Global,
@@ -117,33 +78,17 @@ pub(crate) fn run<S: Shelf, I: Source, O: Sink, G: Sink>(
     let design = given(&command.design);
     let stimulus = given(&command.stimulus);
     match load(alloc, design, stimulus, limit, shelf) {
-        Ok(loaded) => follow(alloc, command.mode, loaded, input, out, log),
+        Ok(loaded) => match command.mode {
+            Mode::Trace => {
+                Outcome::Traced(write_trace(alloc, &loaded.circuit, &loaded.stimulus, out))
+            }
+            Mode::Solo => Outcome::Served(serve_one(alloc, loaded, input, out, log)),
+        },
         Err(LoadFault::Read) => Outcome::Unread,
         Err(LoadFault::Refused(refusal)) => {
             Outcome::Refused(refusal, put_log(log, refusal.line()))
         }
         Err(LoadFault::NoMemory) => Outcome::NoMemory,
-    }
-}
-
-/// How the call with these words ends.
-fn call<S: Shelf, I: Source, O: Sink, G: Sink>(
-    alloc: Global,
-    words: &[String],
-    shelf: &mut S,
-    input: &mut I,
-    out: &mut O,
-    log: &mut G,
-) -> Outcome
-    ensures went { Went file_limit (command_of (map string_bytes words.now)) (outside_of (S.seen shelf.old) (I.seen input.old) (O.seen out.old) (G.seen log.old)) (outside_of (S.seen shelf.new) (I.seen input.new) (O.seen out.new) (G.seen log.new)) result }
-    ensures later { IsLater (outside_of (S.seen shelf.old) (I.seen input.old) (O.seen out.old) (G.seen log.old)) (outside_of (S.seen shelf.new) (I.seen input.new) (O.seen out.new) (G.seen log.new)) }
-    ensures files { (other : List ℕ) → (S.seen shelf.new).file other ≡ (S.seen shelf.old).file other }
-    ensures writes { (S.seen shelf.new).write_faults ≡ (S.seen shelf.old).write_faults }
-{
-    match read_words(alloc, words) {
-        Ok(command) => run(alloc, &command, FILE_LIMIT, shelf, input, out, log),
-        Err(WordsFault::Usage) => Outcome::Misused(put_log(log, USAGE)),
-        Err(WordsFault::NoMemory) => Outcome::NoMemory,
     }
 }
 
@@ -197,5 +142,10 @@ pub fn cxxsim<R: AllocGlobal, S: Shelf, I: Source, O: Sink, G: Sink>(
     ensures files { (other : List ℕ) → (S.seen shelf.new).file other ≡ (S.seen shelf.old).file other }
     ensures writes { (S.seen shelf.new).write_faults ≡ (S.seen shelf.old).write_faults }
 {
-    call(rt.alloc(), words, shelf, input, out, log).status()
+    let alloc = rt.alloc();
+    match read_words(alloc, words) {
+        Ok(command) => run(alloc, &command, FILE_LIMIT, shelf, input, out, log).status(),
+        Err(WordsFault::Usage) => if_logged(put_log(log, USAGE), 2),
+        Err(WordsFault::NoMemory) => 8,
+    }
 }

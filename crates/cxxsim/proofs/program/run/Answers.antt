@@ -5,15 +5,25 @@ use Rattle.cxxsim.specs.Outside.{HasGot, outside_of}
 use Rattle.cxxsim.specs.Printed.{refusal_line}
 use Rattle.cxxsim.specs.declared.outcome.Outcome.TheVariants as outcome
 use Rattle.cxxsim.specs.declared.refusal.Refusal.{Refusal}
-use Rattle.cxxsim.proofs.Following.{followed, refused}
+use Rattle.cxxsim.proofs.Following.{refused, served, traced}
 use Rattle.cxxsim.proofs.program.run.Goals as goal
 
-pub returns-in-Ok-clause-went : goal.returns-in-Ok-clause-went
-returns-in-Ok-clause-went g c =
-    followed c.args.limit
+pub returns-in-Trace-clause-went : goal.returns-in-Trace-clause-went
+returns-in-Trace-clause-went g c =
+    traced c.args.limit
     (outside_of (g.S.Shelf.seen c.args.shelf.now) (g.I.Source.seen c.args.input.now) (g.O.Sink.seen c.args.out.now) (g.G.Sink.seen c.args.log.now))
-    (outside_of (g.S.Shelf.seen c.load.new.shelf) (g.I.Source.seen c.follow.new.input) (g.O.Sink.seen c.follow.new.out) (g.G.Sink.seen c.follow.new.log))
-    c.args.command.now c.given-design.result.now c.given-stimulus.result.now c.in-Ok.loaded.circuit c.in-Ok.loaded.stimulus c.follow.result c.given-design.ensures c.given-stimulus.ensures c.in-Ok.ensures.run c.follow.ensures.followed
+    (outside_of (g.S.Shelf.seen c.load.new.shelf) (g.I.Source.seen c.args.input.now) (g.O.Sink.seen c.write_trace.new.out) (g.G.Sink.seen c.args.log.now))
+    c.args.command.now c.given-design.result.now c.given-stimulus.result.now c.in-Ok.loaded.circuit c.in-Ok.loaded.stimulus c.write_trace.result c.given-design.ensures c.given-stimulus.ensures c.in-Ok.ensures.run
+    (record { ends = c.write_trace.ensures.ends; printed = c.write_trace.ensures.printed; begun = c.write_trace.ensures.begun; write = c.write_trace.ensures.write })
+    refl refl c.in-Trace.is
+
+pub returns-in-Solo-clause-went : goal.returns-in-Solo-clause-went
+returns-in-Solo-clause-went g c =
+    served c.args.limit
+    (outside_of (g.S.Shelf.seen c.args.shelf.now) (g.I.Source.seen c.args.input.now) (g.O.Sink.seen c.args.out.now) (g.G.Sink.seen c.args.log.now))
+    (outside_of (g.S.Shelf.seen c.load.new.shelf) (g.I.Source.seen c.serve_one.new.input) (g.O.Sink.seen c.serve_one.new.out) (g.G.Sink.seen c.serve_one.new.log))
+    c.args.command.now c.given-design.result.now c.given-stimulus.result.now c.in-Ok.loaded.circuit c.in-Ok.loaded.stimulus c.serve_one.result c.given-design.ensures c.given-stimulus.ensures c.in-Ok.ensures.run
+    c.serve_one.ensures.session c.serve_one.ensures.quiet c.serve_one.ensures.wanting c.in-Solo.is
 
 pub returns-in-Err-Refused-clause-went : goal.returns-in-Err-Refused-clause-went
 returns-in-Err-Refused-clause-went g c =
