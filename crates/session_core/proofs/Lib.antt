@@ -2,3 +2,4 @@ pub mod Sayings
 pub mod Agreeing
 pub mod Isolated
 pub mod Opened
+pub mod Greeting

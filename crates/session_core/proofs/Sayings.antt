@@ -6,8 +6,7 @@ use Rattle.std.proofs.lemmas.Bool.{and_parts, false≢true}
 use Rattle.std.proofs.lemmas.List.{append_assoc, length_push, take-append-le}
 use Rattle.std.proofs.Math.Bool.{or-false}
 use Rattle.std.proofs.Math.Seq.{take-append_seam, take-length}
-use Rattle.std.proofs.lemmas.List.Folds.{list_any-append}
-use Rattle.std.proofs.lemmas.List.Sums.{sum_by-append}
+use Rattle.std.proofs.lemmas.List.Sums.{fold_push, sum_by-append}
 use Rattle.circuit.specs.Rounds.{Run}
 use Rattle.hall_core.specs.Laws.{is_recording}
 use Rattle.hall_core.specs.Legal.{is_open}
@@ -20,7 +19,7 @@ use Rattle.hall_core.specs.declared.entry.Why.{Why}
 use Rattle.hall_core.proofs.Progress.{replay-push}
 use Rattle.proto_packets.specs.Asked.{asked}
 use Rattle.proto_replies.specs.Data.{packet_text}
-use Rattle.session_core.specs.Refusals.{greets, is_greeted}
+use Rattle.session_core.specs.Refusals.{Client, client_after, client_of, greets, is_greeted, new_client}
 use Rattle.hall_core.specs.Moments.{Moment, moment_of}
 use Rattle.session_core.specs.Replies.{answer_in, event, events}
 use Rattle.session_core.specs.Said.{answered, given_by, is_packet_of, last_words, listens, packets_in, reply_at, reply_to, said, said_behind}
@@ -47,8 +46,11 @@ said_push run packets c h e = said-append run packets c h (e ∷ []) ∙ ap (λ 
 
 -- ---- how many packets
 
+pub client_push : (earlier : List (List ℕ)) (p : List ℕ) → client_of (earlier ++ p ∷ []) ≡ client_after (client_of earlier) (asked p)
+client_push earlier p = fold_push (λ (client : Client) (packet : List ℕ). client_after client (asked packet)) new_client earlier p
+
 pub is_greeted_push : (earlier : List (List ℕ)) (p : List ℕ) → is_greeted (earlier ++ p ∷ []) ≡ (is_greeted earlier || greets (asked p))
-is_greeted_push earlier p = list_any-append (λ packet. greets (asked packet)) earlier (p ∷ []) ∙ ap (λ z. is_greeted earlier || z) (or-false (greets (asked p)))
+is_greeted_push earlier p = ap (λ (client : Client). client.greeted) (client_push earlier p)
 
 pub packets_in-append : (c : ℕ) (h more : List Entry) → packets_in c (h ++ more) ≡ packets_in c h + packets_in c more
 packets_in-append c h more = sum_by-append (λ e. cond (is_packet_of c e) 1 0) h more

@@ -1,7 +1,8 @@
--- Which packets of a client are refused.
-use Rattle.std.specs.Prelude.{ℕ, ◌==◌, List, Bool, false, Option, Some, None, Result, Ok, Err, if◌then◌else◌}
-use Rattle.std.specs.List.{list_any}
+-- What a client's packets make of it, and which of them are refused.
+use Rattle.std.specs.Prelude.{ℕ, ◌==◌, List, [], Bool, false, ◌||◌, Option, Some, None, Result, Ok, Err, if◌then◌else◌}
+use Rattle.std.specs.List.{fold}
 use Rattle.proto_packets.specs.Asked.{asked}
+use Rattle.proto_packets.specs.declared.request.Designation.{Designation}
 use Rattle.proto_packets.specs.declared.request.Request.{Request}
 use Rattle.proto_packets.specs.declared.request.Request.TheVariants as request
 use Rattle.proto_packets.specs.declared.fault.PacketFault.{PacketFault}
@@ -25,9 +26,24 @@ greets (Ok (request.RunSimulation until kinds)) = false
 greets (Ok request.PauseSimulation) = false
 greets (Err e) = false
 
--- a client is greeted from its first greeting of version 0 on
+-- what its packets so far made of a client: whether it is greeted, and the items by the references that it has set
+pub record Client : Type 0 where
+  pub greeted : Bool
+  pub references : List (List ℕ × List Designation)
+
+abbrev pub new_client : Client
+new_client = record { greeted = false; references = [] }
+
+-- a client after one more packet; commands on references are not served yet
+abbrev pub client_after : Client → Reading → Client
+client_after client read = record client { greeted = client.greeted || greets read }
+
+-- the client of these packets
+abbrev pub client_of : List (List ℕ) → Client
+client_of packets = fold (λ client packet. client_after client (asked packet)) new_client packets
+
 abbrev pub is_greeted : List (List ℕ) → Bool
-is_greeted packets = list_any (λ packet. greets (asked packet)) packets
+is_greeted packets = (client_of packets).greeted
 
 -- the error of a command that asks for a greeting before it
 abbrev pub unless_greeted : Bool → Option ErrorKind

@@ -1,10 +1,13 @@
 //! Laws of what clients are told. A function here does nothing: its contract is the law.
 ghost use Rattle.std.specs.Prelude.{◌≡◌, ◌≤◌, ◌++◌, ◌∷◌, [], List, length, ℕ};
+ghost use Rattle.std.specs.List.{list_any};
 ghost use Rattle.circuit.specs.Rounds.{Run};
 ghost use Rattle.hall_core.specs.Facts.{facts_of};
 ghost use Rattle.hall_core.specs.Legal.{Legal};
 ghost use Rattle.hall_core.specs.declared.entry.Entry.{Entry};
 ghost use Rattle.hall_core.specs.declared.entry.Entry.TheVariants as entry;
+ghost use Rattle.proto_packets.specs.Asked.{asked};
+ghost use Rattle.session_core.specs.Refusals.{client_after, client_of, greets};
 ghost use Rattle.session_core.specs.Said.{given_by, moments, packets_in, replies, said};
 
 /// What a history says to a client is what its entries give to it, one behind the other.
@@ -35,4 +38,12 @@ pub fn law_of_more_packets()
 pub fn law_of_openings()
     ensures { (run : Run) → (packets : List (List ℕ)) → (c : ℕ) → (before more : List Entry)
         → Legal (facts_of run) (before ++ entry.Open c ∷ more) → said run packets c before ≡ [] }
+{}
+
+/// What a client's packets make of it goes on packet by packet, and the client is greeted where one of them is a
+/// greeting of version 0.
+#[tactic(auto, using(crate::proofs::Greeting::greeted_by_one, crate::proofs::Sayings::client_push))]
+pub fn law_of_clients()
+    ensures step { (earlier : List (List ℕ)) → (packet : List ℕ) → client_of (earlier ++ packet ∷ []) ≡ client_after (client_of earlier) (asked packet) }
+    ensures greeted { (packets : List (List ℕ)) → (client_of packets).greeted ≡ list_any (λ packet. greets (asked packet)) packets }
 {}

@@ -4,4 +4,6 @@
 
 mod laws;
 
-pub use laws::{law_of_entries, law_of_isolation, law_of_more_packets, law_of_openings};
+pub use laws::{
+    law_of_clients, law_of_entries, law_of_isolation, law_of_more_packets, law_of_openings,
+};
