@@ -4,10 +4,10 @@ use Rattle.std.specs.Prelude.{IsSome, Result, Ok, Err, option_and_then}
 use Rattle.circuit.specs.declared.netlist.Circuit.{Circuit}
 use Rattle.flat_stimulus.specs.Block.{Block}
 use Rattle.flat_stimulus.specs.Text.{block_of}
-use Rattle.outside.specs.Shelf.{File, Holds, IsLonger, IsOf, IsTold, Missing, Untold}
+use Rattle.outside.specs.Shelf.{File, Holds, IsLonger, IsOf, IsKnown, Missing, Unknown}
 use Rattle.solo_session.specs.declared.solo.Ending.{Ending}
 use Rattle.solo_session.specs.declared.solo.Ending.TheVariants as ending
-use Rattle.cxxsim.specs.Answers.{IsAnswered, IsClosed, IsDoneBy, IsFaultOf, IsIdle, IsLimitedBy, IsMisused, IsRefused, IsToldOf, IsUnreadBy, IsUntraced, IsUnwrittenBy, IsWantingBy, HasEnded, Task, task}
+use Rattle.cxxsim.specs.Answers.{IsAnswered, IsClosed, IsDoneBy, IsFaultOf, IsIdle, IsLimitedBy, IsMisused, IsRefused, IsKnownOf, IsUnreadBy, IsUntraced, IsUnwrittenBy, IsWantingBy, HasEnded, Task, task}
 use Rattle.cxxsim.specs.Outcome.{ServedAs, TracedAs, WentBy, ended_status, if_logged, served_status, status_of, traced_status}
 use Rattle.cxxsim.specs.Outside.{Outside}
 use Rattle.cxxsim.specs.Trace.{HasLongStimulus, HasNoDesign, HasNoStimulus, IsFault, IsRun, design_circuit}
@@ -26,16 +26,16 @@ use Rattle.cxxsim.proofs.Following.{wanting_by}
 
 -- ---- files that have a run have no fault
 
--- a file that is told has one text
-one_text : (f : File) (a b : List ℕ) → IsTold f → IsOf f a → IsOf f b → a ≡ b
-one_text Untold a b told p q = absurd told
-one_text Missing a b told p q = absurd p
-one_text (Holds held) a b told p q = p ∙ sym q
+-- a file that is known has one text
+one_text : (f : File) (a b : List ℕ) → IsKnown f → IsOf f a → IsOf f b → a ≡ b
+one_text Unknown a b known p q = absurd known
+one_text Missing a b known p q = absurd p
+one_text (Holds held) a b known p q = p ∙ sym q
 
-within_limit : (f : File) (a : List ℕ) (limit : ℕ) → IsTold f → IsOf f a → length a ≤ limit → IsLonger f limit → ⊥
-within_limit Untold a limit told p le longer = absurd told
-within_limit Missing a limit told p le longer = absurd p
-within_limit (Holds held) a limit told p le longer = omega (arith, ap length p, le, longer)
+within_limit : (f : File) (a : List ℕ) (limit : ℕ) → IsKnown f → IsOf f a → length a ≤ limit → IsLonger f limit → ⊥
+within_limit Unknown a limit known p le longer = absurd known
+within_limit Missing a limit known p le longer = absurd p
+within_limit (Holds held) a limit known p le longer = omega (arith, ap length p, le, longer)
 
 some_none : {X : Type 0} (x : X) (o : Option X) → o ≡ Some x → o ≡ None → ⊥
 some_none x o p q = absurd (apart (sym p ∙ q))
@@ -46,24 +46,24 @@ some_none x o p q = absurd (apart (sym p ∙ q))
 one_some : {X : Type 0} (x y : X) (o : Option X) → o ≡ Some x → o ≡ Some y → x ≡ y
 one_some x y o p q = cc
 
-one_circuit : (limit : ℕ) (f : File) (c d : Circuit) (a b : List ℕ) → IsTold f → IsOf f a → IsOf f b → design_circuit a ≡ Some c → design_circuit b ≡ Some d → c ≡ d
-one_circuit limit f c d a b told p q here there = one_some c d (design_circuit a) here (ap design_circuit (one_text f a b told p q) ∙ there)
+one_circuit : (limit : ℕ) (f : File) (c d : Circuit) (a b : List ℕ) → IsKnown f → IsOf f a → IsOf f b → design_circuit a ≡ Some c → design_circuit b ≡ Some d → c ≡ d
+one_circuit limit f c d a b known p q here there = one_some c d (design_circuit a) here (ap design_circuit (one_text f a b known p q) ∙ there)
 
-no_fault : (t : Task) (c : Circuit) (b : Block) (r : Refusal) → IsToldOf t r → IsRun t.limit t.design t.stimulus c b → IsFaultOf t r → ⊥
-no_fault t c b refusal.DesignTooLong told run fault = within_limit t.design run.circuit.text t.limit told run.circuit.held.0 run.circuit.held.1 fault
-no_fault t c b refusal.DesignNotBuilt told run fault =
-    some_none c (design_circuit run.circuit.text) run.circuit.read (ap design_circuit (one_text t.design run.circuit.text fault.text told run.circuit.held.0 fault.held.0) ∙ fault.unread)
-no_fault t c b refusal.StimulusTooLong told run fault = within_limit t.stimulus run.block.text t.limit told.1 run.block.held.0 run.block.held.1 fault.longer
-no_fault t c b refusal.StimulusNotBuilt told run fault =
-    let same : c ≡ fault.circuit = one_circuit t.limit t.design c fault.circuit run.circuit.text fault.is_design.text told.0 run.circuit.held.0 fault.is_design.held.0 run.circuit.read fault.is_design.read in
-    let texts : run.block.text ≡ fault.unread.text = one_text t.stimulus run.block.text fault.unread.text told.1 run.block.held.0 fault.unread.held.0 in
+no_fault : (t : Task) (c : Circuit) (b : Block) (r : Refusal) → IsKnownOf t r → IsRun t.limit t.design t.stimulus c b → IsFaultOf t r → ⊥
+no_fault t c b refusal.DesignTooLong known run fault = within_limit t.design run.circuit.text t.limit known run.circuit.held.0 run.circuit.held.1 fault
+no_fault t c b refusal.DesignNotBuilt known run fault =
+    some_none c (design_circuit run.circuit.text) run.circuit.read (ap design_circuit (one_text t.design run.circuit.text fault.text known run.circuit.held.0 fault.held.0) ∙ fault.unread)
+no_fault t c b refusal.StimulusTooLong known run fault = within_limit t.stimulus run.block.text t.limit known.1 run.block.held.0 run.block.held.1 fault.longer
+no_fault t c b refusal.StimulusNotBuilt known run fault =
+    let same : c ≡ fault.circuit = one_circuit t.limit t.design c fault.circuit run.circuit.text fault.is_design.text known.0 run.circuit.held.0 fault.is_design.held.0 run.circuit.read fault.is_design.read in
+    let texts : run.block.text ≡ fault.unread.text = one_text t.stimulus run.block.text fault.unread.text known.1 run.block.held.0 fault.unread.held.0 in
     some_none b (block_of run.block.text c) run.block.read (ap (λ t. block_of t c) texts ∙ ap (block_of fault.unread.text) same ∙ fault.unread.unread)
 
 -- ---- by the status
 
 -- a file that has a fault is not followed
 abbrev Unfaulty : ℕ → Outside → Outside → Command → Type 0
-Unfaulty limit before now c = (r : Refusal) → IsToldOf (task limit before now c) r → IsFaultOf (task limit before now c) r → ⊥
+Unfaulty limit before now c = (r : Refusal) → IsKnownOf (task limit before now c) r → IsFaultOf (task limit before now c) r → ⊥
 
 some_is : {X : Type 0} (x y : X) → Some x ≡ Some y → x ≡ y
 some_is x y e = cc
@@ -84,7 +84,7 @@ done_whole limit before now c is un = record {
   usage_comes = λ e. absurd (none_some c e);
   unread = λ e. absurd (omega (arith, e));
   refused = λ e. absurd (omega (arith, e));
-  refusal_comes = λ d e r told f. absurd (unfaulty_of limit before now c d un e r told f);
+  refusal_comes = λ d e r known f. absurd (unfaulty_of limit before now c d un e r known f);
   unwritten = λ e. absurd (omega (arith, e));
   wanting = λ e. absurd (omega (arith, e));
   limited = λ e. absurd (omega (arith, e));
@@ -99,7 +99,7 @@ done_short limit before now c is un = record {
   usage_comes = λ e. absurd (none_some c e);
   unread = λ e. absurd (omega (arith, e));
   refused = λ e. absurd (omega (arith, e));
-  refusal_comes = λ d e r told f. absurd (unfaulty_of limit before now c d un e r told f);
+  refusal_comes = λ d e r known f. absurd (unfaulty_of limit before now c d un e r known f);
   unwritten = λ e. absurd (omega (arith, e));
   wanting = λ e. absurd (omega (arith, e));
   limited = λ e. absurd (omega (arith, e));
@@ -114,7 +114,7 @@ misused limit before now is = record {
   usage_comes = λ e. inl refl;
   unread = λ e. absurd (omega (arith, e));
   refused = λ e. absurd (omega (arith, e));
-  refusal_comes = λ d e r told f. absurd (none_some d (sym e));
+  refusal_comes = λ d e r known f. absurd (none_some d (sym e));
   unwritten = λ e. absurd (omega (arith, e));
   wanting = λ e. absurd (omega (arith, e));
   limited = λ e. absurd (omega (arith, e));
@@ -129,7 +129,7 @@ misused_unlogged limit before now is = record {
   usage_comes = λ e. inr (refl, is);
   unread = λ e. absurd (omega (arith, e));
   refused = λ e. absurd (omega (arith, e));
-  refusal_comes = λ d e r told f. absurd (none_some d (sym e));
+  refusal_comes = λ d e r known f. absurd (none_some d (sym e));
   unwritten = λ e. inl is;
   wanting = λ e. absurd (omega (arith, e));
   limited = λ e. absurd (omega (arith, e));
@@ -144,7 +144,7 @@ unread limit before now c is = record {
   usage_comes = λ e. absurd (none_some c e);
   unread = λ e. is;
   refused = λ e. absurd (omega (arith, e));
-  refusal_comes = λ d e r told f. inr (inl refl);
+  refusal_comes = λ d e r known f. inr (inl refl);
   unwritten = λ e. absurd (omega (arith, e));
   wanting = λ e. absurd (omega (arith, e));
   limited = λ e. absurd (omega (arith, e));
@@ -159,7 +159,7 @@ refused limit before now c is = record {
   usage_comes = λ e. absurd (none_some c e);
   unread = λ e. absurd (omega (arith, e));
   refused = λ e. is;
-  refusal_comes = λ d e r told f. inl refl;
+  refusal_comes = λ d e r known f. inl refl;
   unwritten = λ e. absurd (omega (arith, e));
   wanting = λ e. absurd (omega (arith, e));
   limited = λ e. absurd (omega (arith, e));
@@ -174,7 +174,7 @@ refused_unlogged limit before now c is = record {
   usage_comes = λ e. absurd (none_some c e);
   unread = λ e. absurd (omega (arith, e));
   refused = λ e. absurd (omega (arith, e));
-  refusal_comes = λ d e r told f. inr (inr (inl (refl, subst (λ (z : Command). IsRefused (task limit before now z) false) (some_is c d e) is)));
+  refusal_comes = λ d e r known f. inr (inr (inl (refl, subst (λ (z : Command). IsRefused (task limit before now z) false) (some_is c d e) is)));
   unwritten = λ e. inr (inl is);
   wanting = λ e. absurd (omega (arith, e));
   limited = λ e. absurd (omega (arith, e));
@@ -189,7 +189,7 @@ unwritten limit before now c is un = record {
   usage_comes = λ e. absurd (none_some c e);
   unread = λ e. absurd (omega (arith, e));
   refused = λ e. absurd (omega (arith, e));
-  refusal_comes = λ d e r told f. absurd (unfaulty_of limit before now c d un e r told f);
+  refusal_comes = λ d e r known f. absurd (unfaulty_of limit before now c d un e r known f);
   unwritten = λ e. inr (inr is);
   wanting = λ e. absurd (omega (arith, e));
   limited = λ e. absurd (omega (arith, e));
@@ -204,7 +204,7 @@ wanting limit before now c is = record {
   usage_comes = λ e. absurd (none_some c e);
   unread = λ e. absurd (omega (arith, e));
   refused = λ e. absurd (omega (arith, e));
-  refusal_comes = λ d e r told f. inr (inr (inr refl));
+  refusal_comes = λ d e r known f. inr (inr (inr refl));
   unwritten = λ e. absurd (omega (arith, e));
   wanting = λ e. is;
   limited = λ e. absurd (omega (arith, e));
@@ -219,7 +219,7 @@ limited limit before now c is un = record {
   usage_comes = λ e. absurd (none_some c e);
   unread = λ e. absurd (omega (arith, e));
   refused = λ e. absurd (omega (arith, e));
-  refusal_comes = λ d e r told f. absurd (unfaulty_of limit before now c d un e r told f);
+  refusal_comes = λ d e r known f. absurd (unfaulty_of limit before now c d un e r known f);
   unwritten = λ e. absurd (omega (arith, e));
   wanting = λ e. absurd (omega (arith, e));
   limited = λ e. is;
@@ -228,7 +228,7 @@ limited limit before now c is un = record {
 -- ---- all ways in which a call ends
 
 unfaulty_run : (limit : ℕ) (before now : Outside) (cmd : Command) (c : Circuit) (b : Block) → IsRun limit (task limit before now cmd).design (task limit before now cmd).stimulus c b → Unfaulty limit before now cmd
-unfaulty_run limit before now cmd c b run r told f = no_fault (task limit before now cmd) c b r told run f
+unfaulty_run limit before now cmd c b run r known f = no_fault (task limit before now cmd) c b r known run f
 
 -- what holds in a mode holds in that of the command
 in_mode : (P : Mode → Type 0) (m n : Mode) → m ≡ n → P n → P m

@@ -4,7 +4,7 @@ use Rattle.std.specs.List.{list_any}
 use Rattle.circuit.specs.declared.netlist.Circuit.{Circuit}
 use Rattle.flat_stimulus.specs.Block.{Block}
 use Rattle.outside.specs.Faults.{Rose}
-use Rattle.outside.specs.Shelf.{File, IsTold}
+use Rattle.outside.specs.Shelf.{File, IsKnown}
 use Rattle.solo_session.specs.declared.solo.Ending.{Ending}
 use Rattle.solo_session.specs.declared.solo.Ending.TheVariants as ending
 use Rattle.cxxsim.specs.Outside.{HasFailed, HasGot, IsQuiet, Outside, named}
@@ -100,11 +100,11 @@ abbrev pub IsFaultOf : Task → Refusal → Type 0
 IsFaultOf t r = IsFault t.limit t.design t.stimulus r
 
 -- the shelf tells of the file that has the fault, and of the one that is read before it
-abbrev pub IsToldOf : Task → Refusal → Type 0
-IsToldOf t refusal.DesignTooLong = IsTold t.design
-IsToldOf t refusal.DesignNotBuilt = IsTold t.design
-IsToldOf t refusal.StimulusTooLong = IsTold t.design × IsTold t.stimulus
-IsToldOf t refusal.StimulusNotBuilt = IsTold t.design × IsTold t.stimulus
+abbrev pub IsKnownOf : Task → Refusal → Type 0
+IsKnownOf t refusal.DesignTooLong = IsKnown t.design
+IsKnownOf t refusal.DesignNotBuilt = IsKnown t.design
+IsKnownOf t refusal.StimulusTooLong = IsKnown t.design × IsKnown t.stimulus
+IsKnownOf t refusal.StimulusNotBuilt = IsKnown t.design × IsKnown t.stimulus
 
 -- a file has a fault, and its line came to the log, or the log failed; nothing else was read or written
 abbrev pub IsRefused : Task → Bool → Type 0
@@ -127,7 +127,7 @@ pub record IsAnswered (limit : ℕ) (asked : Option Command) (before now : Outsi
   pub unread : status ≡ 3 → IfAsked asked (λ c. IsUnreadBy (task limit before now c) c.mode)
   -- 4: exactly where a file that was read has a fault; 5 in its place only where the log failed
   pub refused : status ≡ 4 → IfAsked asked (λ c. IsRefused (task limit before now c) true)
-  pub refusal_comes : (c : Command) → asked ≡ Some c → (r : Refusal) → IsToldOf (task limit before now c) r → IsFaultOf (task limit before now c) r
+  pub refusal_comes : (c : Command) → asked ≡ Some c → (r : Refusal) → IsKnownOf (task limit before now c) r → IsFaultOf (task limit before now c) r
       → (status ≡ 4) ⊎ (status ≡ 3) ⊎ ((status ≡ 5) × IsRefused (task limit before now c) false) ⊎ (status ≡ 8)
   -- 5: only where the output failed, or the log
   pub unwritten : status ≡ 5 → IsMisused asked before now false ⊎ IfAsked asked (λ c. IsRefused (task limit before now c) false ⊎ IsUnwrittenBy (task limit before now c) c.mode)

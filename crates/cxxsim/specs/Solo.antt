@@ -13,7 +13,7 @@ use Rattle.hall_core.specs.declared.entry.Entry.TheVariants as entry
 use Rattle.outside.specs.Shelf.{File}
 use Rattle.outside.specs.Sink.{SinkSeen}
 use Rattle.outside.specs.Source.{SourceSeen}
-use Rattle.solo_session.specs.Solo.{IsCause, IsEnded, IsWanting, start_of}
+use Rattle.solo_session.specs.Solo.{IsCause, IsEnded, IsWanting, outset_of}
 use Rattle.solo_session.specs.declared.solo.Ending.{Ending}
 use Rattle.solo_session.specs.declared.solo.Ending.TheVariants as ending
 use Rattle.cxxsim.specs.Outside.{HasGot, IsQuiet}
@@ -31,7 +31,7 @@ pub record IsUnserved (run : Sampled) (input input_now : SourceSeen) (out out_no
 -- sample 0 settles, and the client was served
 pub record IsServed (run : Sampled) (input input_now : SourceSeen) (out out_now : SinkSeen) (history : List Entry) (ends : Ending) : Type 0 where
   pub settled : 1 ≤ run_length (run_of run)
-  pub ended : IsEnded (start_of (run_of run) input out) input_now.left out_now.held history ends
+  pub ended : IsEnded (outset_of (run_of run) input out) input_now.left out_now.held history ends
 
 -- the history of a session, and what was read and sent, by how it ended
 pub record IsHeld (run : Sampled) (input input_now : SourceSeen) (out out_now : SinkSeen) (history : List Entry) (ends : Ending) : Type 0 where
@@ -41,7 +41,7 @@ pub record IsHeld (run : Sampled) (input input_now : SourceSeen) (out out_now : 
 
 -- after want of memory: nothing was sent, or a beginning of what the history of the client's bytes says
 abbrev pub IsSentAtMost : Sampled → SourceSeen → SourceSeen → SinkSeen → SinkSeen → Type 0
-IsSentAtMost run input input_now out out_now = IsQuiet out out_now ⊎ IsWanting (start_of (run_of run) input out) out_now.held
+IsSentAtMost run input input_now out out_now = IsQuiet out out_now ⊎ IsWanting (outset_of (run_of run) input out) out_now.held
 
 -- the log has got the text of the history of a session
 pub record IsSessionOf (run : Sampled) (input input_now : SourceSeen) (out out_now log log_now : SinkSeen) (closed : Closed) : Type 0 where

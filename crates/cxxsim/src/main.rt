@@ -4,10 +4,10 @@
 #![tactic(auto)]
 
 mod command;
+mod loading;
 mod outcome;
 mod print;
 mod program;
-mod reading;
 mod refusal;
 mod session;
 #[cfg(test)]

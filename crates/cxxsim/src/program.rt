@@ -9,8 +9,8 @@ ghost use Rattle.cxxsim.specs.Solo.{IsSentAtMost, IsSessionOf};
 ghost use Rattle.cxxsim.specs.Words.{command_of};
 
 use crate::command::{Command, Mode};
+use crate::loading::{Loaded, load};
 use crate::outcome::{Outcome, if_logged};
-use crate::reading::{Loaded, load};
 use crate::refusal::LoadFault;
 use crate::session::{Closed, converse, put_log};
 use crate::tracing::write_trace;

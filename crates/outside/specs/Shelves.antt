@@ -24,13 +24,13 @@ empty_shelves = record { files = []; failing_reads = []; failing_writes = []; re
 abbrev pub bytes_in : List (List ℕ × List ℕ) → List ℕ → Option (List ℕ)
 bytes_in files name = lookup (λ other. is_eq (slice_cmp nat_cmp name other)) files
 
-abbrev pub told : Option (List ℕ) → File
-told None = Missing
-told (Some bytes) = Holds bytes
+abbrev pub known_file : Option (List ℕ) → File
+known_file None = Missing
+known_file (Some bytes) = Holds bytes
 
 -- what a shelf in memory tells of the file of this name
 abbrev pub file_in : List (List ℕ × List ℕ) → List ℕ → File
-file_in files name = told (bytes_in files name)
+file_in files name = known_file (bytes_in files name)
 
 -- what is seen of it
 abbrev pub seen_of : Shelved → ShelfSeen

@@ -34,9 +34,9 @@ impl<R: rt::Files> Files<R> {
 }
 
 impl<R: rt::Files> Shelf for Files<R> {
-    ghost use Rattle.outside.specs.Shelf.{Untold};
+    ghost use Rattle.outside.specs.Shelf.{Unknown};
 
-    ghost seen = { λ s. record { file = λ _. Untold; read_faults = s.read_faults; write_faults = s.write_faults } };
+    ghost seen = { λ s. record { file = λ _. Unknown; read_faults = s.read_faults; write_faults = s.write_faults } };
 
     fn read(&mut self, alloc: Global, name: &Name, limit: u64) -> Result<Vec<u8>, ShelfFault> {
         let answer = read_file(&self.rt, alloc, name, limit);

@@ -1,7 +1,7 @@
 //! Shelves of files.
 ghost use Rattle.std.specs.Prelude.{◌≡◌, ◌≢◌, ℕ, ◌≤◌, List, IfOk, OnOk, IsErrOf, vec_len};
 ghost use Rattle.outside.specs.Faults.{Rose};
-ghost use Rattle.outside.specs.Shelf.{Holds, IsLonger, IsOf, IsTold, ShelfSeen};
+ghost use Rattle.outside.specs.Shelf.{Holds, IsLonger, IsOf, IsKnown, ShelfSeen};
 
 use sim_base::Name;
 use std::alloc::Global;
@@ -40,8 +40,8 @@ pub trait Shelf {
     /// Makes these all the bytes of the file, which is made where there is none. After `Failed` the file
     /// may hold anything, and `TooLong` never comes.
     fn write(&mut self, alloc: Global, name: &Name, bytes: &[u8]) -> Result<(), ShelfFault>
-        ensures written { OnOk result (IsTold ((seen self.old).file name.now) → (seen self.new).file name.now ≡ Holds bytes.now) }
-        ensures told { IsTold ((seen self.old).file name.now) → IsTold ((seen self.new).file name.now) }
+        ensures written { OnOk result (IsKnown ((seen self.old).file name.now) → (seen self.new).file name.now ≡ Holds bytes.now) }
+        ensures known { IsKnown ((seen self.old).file name.now) → IsKnown ((seen self.new).file name.now) }
         ensures too_long { IsErrOf result ShelfFault.TooLong → ⊥ }
         ensures failed { IsErrOf result ShelfFault.Failed → Rose (seen self.old).write_faults (seen self.new).write_faults }
         ensures no_memory { IsErrOf result ShelfFault.NoMemory → (seen self.new).write_faults ≡ (seen self.old).write_faults }

@@ -1,7 +1,7 @@
 //! A shelf in memory.
 ghost use Rattle.std.specs.Prelude.{◌≡◌, ◌≢◌, ℕ, ◌<◌, ◌≤◌, ◌↔◌, List, length, IfOk, OnOk, OnErr, IsErrOf, IsTrue, MatchOption, vec_len};
 ghost use Rattle.outside.specs.Faults.{Rose};
-ghost use Rattle.outside.specs.Shelf.{Holds, IsLonger, IsOf, IsTold, Missing};
+ghost use Rattle.outside.specs.Shelf.{Holds, IsLonger, IsOf, IsKnown, Missing};
 ghost use Rattle.outside.specs.Shelves.{after_read, after_write, empty_shelves, fails_read, fails_write, file_in, seen_of};
 
 use crate::calls::{is_listed, one_more};
@@ -146,8 +146,8 @@ impl Shelf for Shelves {
     }
 
     fn write(&mut self, alloc: Global, name: &Name, bytes: &[u8]) -> Result<(), ShelfFault>
-        ensures written { OnOk result (IsTold (file_in self.old.files name.now) → file_in self.new.files name.now ≡ Holds bytes.now) }
-        ensures told { IsTold (file_in self.old.files name.now) → IsTold (file_in self.new.files name.now) }
+        ensures written { OnOk result (IsKnown (file_in self.old.files name.now) → file_in self.new.files name.now ≡ Holds bytes.now) }
+        ensures known { IsKnown (file_in self.old.files name.now) → IsKnown (file_in self.new.files name.now) }
         ensures too_long { IsErrOf result ShelfFault.TooLong → ⊥ }
         ensures failed { IsErrOf result ShelfFault.Failed → Rose self.old.write_faults self.new.write_faults }
         ensures no_memory { IsErrOf result ShelfFault.NoMemory → self.new.write_faults ≡ self.old.write_faults }

@@ -11,11 +11,11 @@ use Rattle.proto_replies.specs.declared.answer.ErrorKind.{ErrorKind}
 use Rattle.proto_replies.specs.declared.answer.ErrorKind.TheVariants as error
 
 -- what a packet asks, or its fault
-abbrev pub Reading : Type 0
-Reading = Result Request PacketFault
+abbrev pub Asking : Type 0
+Asking = Result Request PacketFault
 
 -- a greeting of version 0
-abbrev pub greets : Reading → Bool
+abbrev pub greets : Asking → Bool
 greets (Ok (request.Greeting version)) = version == 0
 greets (Ok (request.ListScopes scope)) = false
 greets (Ok (request.ListItems scope)) = false
@@ -35,7 +35,7 @@ abbrev pub new_client : Client
 new_client = record { greeted = false; references = [] }
 
 -- a client after one more packet; commands on references are not served yet
-abbrev pub client_after : Client → Reading → Client
+abbrev pub client_after : Client → Asking → Client
 client_after client read = record client { greeted = client.greeted || greets read }
 
 -- the client of these packets
@@ -50,7 +50,7 @@ abbrev pub unless_greeted : Bool → Option ErrorKind
 unless_greeted greeted = if greeted then None else Some error.NotGreeted
 
 -- the first error that holds for a packet, of a client that was greeted before it or not; want of memory is none
-abbrev pub error_of : Bool → Reading → Option ErrorKind
+abbrev pub error_of : Bool → Asking → Option ErrorKind
 error_of greeted (Err fault.Json) = Some error.InvalidJson
 error_of greeted (Err fault.Packet) = Some error.InvalidPacket
 error_of greeted (Err fault.Command) = Some error.InvalidCommand

@@ -21,7 +21,7 @@ use Rattle.proto_replies.specs.declared.answer.ErrorKind.{ErrorKind}
 use Rattle.proto_replies.specs.declared.answer.ErrorKind.TheVariants as error
 use Rattle.proto_replies.specs.declared.answer.RunState.{RunState}
 use Rattle.proto_replies.specs.declared.answer.RunState.TheVariants as state
-use Rattle.session_core.specs.Refusals.{Reading, error_of, is_greeted, refused}
+use Rattle.session_core.specs.Refusals.{Asking, error_of, is_greeted, refused}
 
 -- ---- what a packet does
 
@@ -31,7 +31,7 @@ goal_of run None = run.count
 goal_of run (Some time) = samples_until run.row run.count time
 
 -- what a request does that is not refused
-abbrev pub act_asked : Run → Reading → Act
+abbrev pub act_asked : Run → Asking → Act
 act_asked run (Ok (request.RunSimulation until kinds)) = act.Run (goal_of run until) kinds
 act_asked run (Ok (request.Greeting version)) = act.Look
 act_asked run (Ok (request.ListScopes scope)) = act.Look
@@ -47,7 +47,7 @@ act_unless (Some e) what = act.Look
 act_unless None what = what
 
 -- what a packet does, of a client that was greeted before it or not
-abbrev pub act_in : Run → Bool → Reading → Act
+abbrev pub act_in : Run → Bool → Asking → Act
 act_in run greeted read = act_unless (error_of greeted read) (act_asked run read)
 
 -- what a packet behind a client's earlier packets does
@@ -82,7 +82,7 @@ abbrev pub status : Run → Moment → Answer
 status run m = answer.Status (time_of run (m.n - 1)) (state_of run m) (next_time run m.n (state_of run m))
 
 -- the reply to a request that is not refused; the others are refused always
-abbrev pub answer_to : Run → Moment → Reading → Answer
+abbrev pub answer_to : Run → Moment → Asking → Answer
 answer_to run m (Ok (request.Greeting version)) = answer.Greeting
 answer_to run m (Ok request.Status) = status run m
 answer_to run m (Ok (request.RunSimulation until kinds)) = answer.RunSimulation
@@ -98,7 +98,7 @@ answer_unless (Some e) a = answer.Error e
 answer_unless None a = a
 
 -- the reply to a packet, of a client that was greeted before it or not
-abbrev pub answer_in : Run → Bool → Moment → Reading → Answer
+abbrev pub answer_in : Run → Bool → Moment → Asking → Answer
 answer_in run greeted m read = answer_unless (error_of greeted read) (answer_to run m read)
 
 -- the bytes of the reply to a packet: by what stands just after its entry, and by the client's own earlier packets

@@ -18,7 +18,7 @@ use Rattle.proto_packets.specs.Asked.{asked}
 use Rattle.proto_packets.specs.declared.request.Request.TheVariants as request
 use Rattle.proto_replies.specs.Data.{packet_text}
 use Rattle.proto_replies.specs.declared.answer.ErrorKind.{ErrorKind}
-use Rattle.session_core.specs.Refusals.{Reading, error_of, greets, is_greeted}
+use Rattle.session_core.specs.Refusals.{Asking, error_of, greets, is_greeted}
 use Rattle.session_core.specs.Replies.{act_asked, act_in, act_of, act_unless, answer_in, event, goal_of, events}
 use Rattle.hall_core.specs.Moments.{moment_of}
 use Rattle.session_core.specs.Said.{Agrees, packets_in, said, said_behind}
@@ -83,7 +83,7 @@ goal_within run (Some time) = until_within run.row run.count time
 may_goal : (m n : ℕ) → m ≤ n → nat_le m n ≡ true
 may_goal m n le = grind (arith, nat_tests)
 
-may_asked : (run : Run) (read : Reading) → may_act run.count (act_asked run read) ≡ true
+may_asked : (run : Run) (read : Asking) → may_act run.count (act_asked run read) ≡ true
 may_asked run (Ok (request.RunSimulation until kinds)) = may_goal (goal_of run until) run.count (goal_within run until)
 may_asked run (Ok (request.Greeting version)) = refl
 may_asked run (Ok (request.ListScopes scope)) = refl
@@ -98,7 +98,7 @@ may_unless : (count : ℕ) (refusal : Option ErrorKind) (what : Act) → may_act
 may_unless count (Some e) what may = refl
 may_unless count None what may = may
 
-pub may_in : (run : Run) (greeted : Bool) (read : Reading) → may_act run.count (act_in run greeted read) ≡ true
+pub may_in : (run : Run) (greeted : Bool) (read : Asking) → may_act run.count (act_in run greeted read) ≡ true
 may_in run greeted read = may_unless run.count (error_of greeted read) (act_asked run read) (may_asked run read)
 
 -- ---- a packet is served
@@ -166,7 +166,7 @@ has_served_packet packets s next bytes p now served has same is = record {
   has_said = has;
 }
 
--- ---- the start
+-- ---- the outset
 
 pub opened_agrees : (run : Run) → Agrees run [] 0 opening
 opened_agrees run = record {

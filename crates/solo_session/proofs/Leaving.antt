@@ -13,7 +13,7 @@ use Rattle.solo_session.specs.Pace.{course, input_limit, opening, packets_of, so
 use Rattle.solo_session.specs.Reading.{HasRead, IsOutputCause, IsReading}
 use Rattle.session_core.specs.Said.{said, said_behind}
 use Rattle.solo_session.specs.Session.{Conversation}
-use Rattle.solo_session.specs.Solo.{IsBroken, IsCause, IsCutOff, IsEnded, IsEndedBy, IsReadOf, IsServedTo, IsWanting, IsWhole, Start, due}
+use Rattle.solo_session.specs.Solo.{IsBroken, IsCause, IsCutOff, IsEnded, IsEndedBy, IsReadOf, IsServedTo, IsWanting, IsWhole, Outset, due}
 use Rattle.outside.specs.Faults.{Rose}
 use Rattle.outside.specs.Sink.{IsSentInPart, SinkSeen}
 use Rattle.outside.specs.Source.{SourceSeen}
@@ -31,20 +31,20 @@ on_err (Err e) p = p
 
 -- ---- what was read
 
-pub read_of : (start : Start) (left : Option (List ℕ)) (s : Conversation) (rest : List ℕ) (taken : ℕ) (told : List ℕ) (read : HasRead start left s rest taken told) → IsReadOf start.left left read.given
-read_of start left s rest taken told read = record {
+pub read_of : (outset : Outset) (left : Option (List ℕ)) (s : Conversation) (rest : List ℕ) (taken : ℕ) (told : List ℕ) (read : HasRead outset left s rest taken told) → IsReadOf outset.left left read.given
+read_of outset left s rest taken told read = record {
   few = (let e : length read.given ≡ taken = read.count in let l : taken ≤ input_limit = read.within in omega (arith, e, l));
   read = read.read;
 }
 
-pub ended_by : (start : Start) (left held : Option (List ℕ)) (s : Conversation) (rest : List ℕ) (taken : ℕ) (told : List ℕ) (history : List Entry) (ends : Ending) (read : HasRead start left s rest taken told)
-    → IsEndedBy start left held history read.given ends → IsEnded start left held history ends
-ended_by start left held s rest taken told history ends read by = record { given = read.given; taken = read_of start left s rest taken told read; by = by }
+pub ended_by : (outset : Outset) (left held : Option (List ℕ)) (s : Conversation) (rest : List ℕ) (taken : ℕ) (told : List ℕ) (history : List Entry) (ends : Ending) (read : HasRead outset left s rest taken told)
+    → IsEndedBy outset left held history read.given ends → IsEnded outset left held history ends
+ended_by outset left held s rest taken told history ends read by = record { given = read.given; taken = read_of outset left s rest taken told read; by = by }
 
 -- one byte more than are served was read
-pub over_by : (start : Start) (left held here : Option (List ℕ)) (s : Conversation) (rest piece : List ℕ) (taken : ℕ) (history : List Entry) (reading : IsReading start (prepend_known piece left) here s rest taken) → length piece ≤ 1
-    → IsWhole start left held history (reading.1.given ++ piece) ending.Limit → IsEnded start left held history ending.Limit
-over_by start left held here s rest piece taken history (told, read, sent, none) one by = record {
+pub over_by : (outset : Outset) (left held here : Option (List ℕ)) (s : Conversation) (rest piece : List ℕ) (taken : ℕ) (history : List Entry) (reading : IsReading outset (prepend_known piece left) here s rest taken) → length piece ≤ 1
+    → IsWhole outset left held history (reading.1.given ++ piece) ending.Limit → IsEnded outset left held history ending.Limit
+over_by outset left held here s rest piece taken history (told, read, sent, none) one by = record {
   given = read.given ++ piece;
   taken = record {
     few = (let e : length read.given ≡ taken = read.count in let l : taken ≤ input_limit = read.within in omega (arith, e, l, one, length-append read.given piece));
@@ -55,21 +55,21 @@ over_by start left held here s rest piece taken history (told, read, sent, none)
 
 -- ---- by what was read
 
-read_within : (start : Start) (left : Option (List ℕ)) (s : Conversation) (rest : List ℕ) (taken : ℕ) (told : List ℕ) (read : HasRead start left s rest taken told) → length read.given ≤ input_limit
-read_within start left s rest taken told read = (let e : length read.given ≡ taken = read.count in let l : taken ≤ input_limit = read.within in omega (arith, e, l))
+read_within : (outset : Outset) (left : Option (List ℕ)) (s : Conversation) (rest : List ℕ) (taken : ℕ) (told : List ℕ) (read : HasRead outset left s rest taken told) → length read.given ≤ input_limit
+read_within outset left s rest taken told read = (let e : length read.given ≡ taken = read.count in let l : taken ≤ input_limit = read.within in omega (arith, e, l))
 
 -- the packets of the bytes that were read, and those behind them
-read_packets : (start : Start) (left : Option (List ℕ)) (s : Conversation) (rest : List ℕ) (taken : ℕ) (told : List ℕ) (read : HasRead start left s rest taken told) → packets read.given ≡ map whole read.done ++ packets rest
-read_packets start left s rest taken told read = ap packets (sym (append-nil read.given)) ∙ read.parts [] ∙ ap (λ z. map whole read.done ++ packets z) (append-nil rest)
+read_packets : (outset : Outset) (left : Option (List ℕ)) (s : Conversation) (rest : List ℕ) (taken : ℕ) (told : List ℕ) (read : HasRead outset left s rest taken told) → packets read.given ≡ map whole read.done ++ packets rest
+read_packets outset left s rest taken told read = ap packets (sym (append-nil read.given)) ∙ read.parts [] ∙ ap (λ z. map whole read.done ++ packets z) (append-nil rest)
 
-pub given_packets : (start : Start) (left : Option (List ℕ)) (s : Conversation) (rest : List ℕ) (taken : ℕ) (told : List ℕ) (read : HasRead start left s rest taken told) → wholes (packets rest) ≡ [] → packets_of read.given ≡ read.done
-given_packets start left s rest taken told read none =
-    ap (λ z. wholes (packets z)) (take_all input_limit read.given (read_within start left s rest taken told read))
-    ∙ ap wholes (read_packets start left s rest taken told read)
+pub given_packets : (outset : Outset) (left : Option (List ℕ)) (s : Conversation) (rest : List ℕ) (taken : ℕ) (told : List ℕ) (read : HasRead outset left s rest taken told) → wholes (packets rest) ≡ [] → packets_of read.given ≡ read.done
+given_packets outset left s rest taken told read none =
+    ap (λ z. wholes (packets z)) (take_all input_limit read.given (read_within outset left s rest taken told read))
+    ∙ ap wholes (read_packets outset left s rest taken told read)
     ∙ wholes_done read.done (packets rest) ∙ ap (λ z. read.done ++ z) none ∙ append-nil read.done
 
-pub given_long : (start : Start) (left : Option (List ℕ)) (s : Conversation) (rest : List ℕ) (taken : ℕ) (told : List ℕ) (read : HasRead start left s rest taken told) → has_too_long (packets read.given) ≡ has_too_long (packets rest)
-given_long start left s rest taken told read = ap has_too_long (read_packets start left s rest taken told read) ∙ has_too_long_done read.done (packets rest)
+pub given_long : (outset : Outset) (left : Option (List ℕ)) (s : Conversation) (rest : List ℕ) (taken : ℕ) (told : List ℕ) (read : HasRead outset left s rest taken told) → has_too_long (packets read.given) ≡ has_too_long (packets rest)
+given_long outset left s rest taken told read = ap has_too_long (read_packets outset left s rest taken told read) ∙ has_too_long_done read.done (packets rest)
 
 pub none_whole : (ps : List Packet) → ps ≡ [] → wholes ps ≡ []
 unfolding wholes
@@ -88,35 +88,35 @@ unfolding has_too_long
 is_long ps is = ap has_too_long is
 
 -- the history, and what was told, are those of the packets of the bytes that were read
-pub course_is : (start : Start) (left : Option (List ℕ)) (s : Conversation) (rest : List ℕ) (taken : ℕ) (told : List ℕ) (read : HasRead start left s rest taken told) → wholes (packets rest) ≡ [] → s.history ≡ course s.run read.given
-course_is start left s rest taken told read none = read.served.paced ∙ ap (λ z. with_packets s.run [] opening z) (sym (given_packets start left s rest taken told read none))
+pub course_is : (outset : Outset) (left : Option (List ℕ)) (s : Conversation) (rest : List ℕ) (taken : ℕ) (told : List ℕ) (read : HasRead outset left s rest taken told) → wholes (packets rest) ≡ [] → s.history ≡ course s.run read.given
+course_is outset left s rest taken told read none = read.served.paced ∙ ap (λ z. with_packets s.run [] opening z) (sym (given_packets outset left s rest taken told read none))
 
-pub due_is : (start : Start) (left : Option (List ℕ)) (s : Conversation) (rest : List ℕ) (taken : ℕ) (told : List ℕ) (read : HasRead start left s rest taken told) → wholes (packets rest) ≡ [] → told ≡ due s.run read.given
-due_is start left s rest taken told read none =
+pub due_is : (outset : Outset) (left : Option (List ℕ)) (s : Conversation) (rest : List ℕ) (taken : ℕ) (told : List ℕ) (read : HasRead outset left s rest taken told) → wholes (packets rest) ≡ [] → told ≡ due s.run read.given
+due_is outset left s rest taken told read none =
     read.served.has_said.said
-    ∙ ap (λ z. said s.run z 0 s.history) (sym (given_packets start left s rest taken told read none))
-    ∙ ap (λ z. said s.run (packets_of read.given) 0 z) (course_is start left s rest taken told read none)
+    ∙ ap (λ z. said s.run z 0 s.history) (sym (given_packets outset left s rest taken told read none))
+    ∙ ap (λ z. said s.run (packets_of read.given) 0 z) (course_is outset left s rest taken told read none)
 
-served_to : (start : Start) (left held : Option (List ℕ)) (s : Conversation) (rest : List ℕ) (taken : ℕ) (told : List ℕ) (read : HasRead start left s rest taken told) → held ≡ append_known start.held told → packets rest ≡ []
-    → IsServedTo (started start s.run) held (s.history ++ entry.Close 0 why.Fault ∷ entry.End ∷ []) read.given
-served_to start left held s rest taken told read sent none =
-    let same : packets_of read.given ≡ read.done = given_packets start left s rest taken told read (none_whole (packets rest) none) in
+served_to : (outset : Outset) (left held : Option (List ℕ)) (s : Conversation) (rest : List ℕ) (taken : ℕ) (told : List ℕ) (read : HasRead outset left s rest taken told) → held ≡ append_known outset.held told → packets rest ≡ []
+    → IsServedTo (started outset s.run) held (s.history ++ entry.Close 0 why.Fault ∷ entry.End ∷ []) read.given
+served_to outset left held s rest taken told read sent none =
+    let same : packets_of read.given ≡ read.done = given_packets outset left s rest taken told read (none_whole (packets rest) none) in
     record {
-      whole = ap (λ z. z ++ entry.Close 0 why.Fault ∷ entry.End ∷ []) (course_is start left s rest taken told read (none_whole (packets rest) none));
+      whole = ap (λ z. z ++ entry.Close 0 why.Fault ∷ entry.End ∷ []) (course_is outset left s rest taken told read (none_whole (packets rest) none));
       sent = sent
-          ∙ ap (λ z. append_known start.held z)
+          ∙ ap (λ z. append_known outset.held z)
           (read.served.has_said.said ∙ sym (append-nil (said s.run read.done 0 s.history)) ∙ sym (said_closed s.run read.done s.history why.Fault)
           ∙ ap (λ z. said s.run z 0 (s.history ++ entry.Close 0 why.Fault ∷ entry.End ∷ [])) (sym same));
     }
 
 -- ---- the input failed
 
-pub input_fails : (start : Start) (left held : Option (List ℕ)) (s : Conversation) (rest : List ℕ) (taken : ℕ) → IsReading start left held s rest taken
-    → IsEnded start left held (s.history ++ entry.Close 0 why.Fault ∷ entry.End ∷ []) ending.InputFailed
-input_fails start left held s rest taken (told, read, sent, none) =
-    ended_by start left held s rest taken told (s.history ++ entry.Close 0 why.Fault ∷ entry.End ∷ []) ending.InputFailed read (
-      reading_breaks start left held s rest taken (told, read, sent, none),
-      subst (λ (r : Run). IsServedTo (started start r) held (s.history ++ entry.Close 0 why.Fault ∷ entry.End ∷ []) read.given) read.run (served_to start left held s rest taken told read sent none),
+pub input_fails : (outset : Outset) (left held : Option (List ℕ)) (s : Conversation) (rest : List ℕ) (taken : ℕ) → IsReading outset left held s rest taken
+    → IsEnded outset left held (s.history ++ entry.Close 0 why.Fault ∷ entry.End ∷ []) ending.InputFailed
+input_fails outset left held s rest taken (told, read, sent, none) =
+    ended_by outset left held s rest taken told (s.history ++ entry.Close 0 why.Fault ∷ entry.End ∷ []) ending.InputFailed read (
+      reading_breaks outset left held s rest taken (told, read, sent, none),
+      subst (λ (r : Run). IsServedTo (started outset r) held (s.history ++ entry.Close 0 why.Fault ∷ entry.End ∷ []) read.given) read.run (served_to outset left held s rest taken told read sent none),
     )
 
 -- ---- memory is wanting
@@ -136,29 +136,29 @@ cut_says run ps begun more history solo parts cut =
     ap (said run ps 0) parts ∙ said-append run ps 0 begun more
     ∙ ap (λ z. z ++ said_behind run ps 0 begun more) (sym (append-nil (said run ps 0 begun)) ∙ sym (said_closed run ps begun why.Fault) ∙ ap (said run ps 0) (sym cut))
 
-pub broken_wanting : (start : Start) (held : Option (List ℕ)) (history : List Entry) → IsBroken start held history → IsWanting start held
-broken_wanting start held history b = record {
+pub broken_wanting : (outset : Outset) (held : Option (List ℕ)) (history : List Entry) → IsBroken outset held history → IsWanting outset held
+broken_wanting outset held history b = record {
   bytes = b.bytes;
   input = b.input;
   sent =
       elim b.broken [
         | inl cut ↦
-            longer start.held held (said start.run (packets_of b.bytes) 0 history) (said_behind start.run (packets_of b.bytes) 0 cut.begun cut.more)
-            (said start.run (packets_of b.bytes) 0 (solo_history start.run b.bytes)) b.sent
-            (cut_says start.run (packets_of b.bytes) cut.begun cut.more history (solo_history start.run b.bytes) cut.parts cut.cut)
-        | inr same ↦ subst (λ (h : List Entry). IsSentInPart start.held held (said start.run (packets_of b.bytes) 0 h)) same.1 b.sent
+            longer outset.held held (said outset.run (packets_of b.bytes) 0 history) (said_behind outset.run (packets_of b.bytes) 0 cut.begun cut.more)
+            (said outset.run (packets_of b.bytes) 0 (solo_history outset.run b.bytes)) b.sent
+            (cut_says outset.run (packets_of b.bytes) cut.begun cut.more history (solo_history outset.run b.bytes) cut.parts cut.cut)
+        | inr same ↦ subst (λ (h : List Entry). IsSentInPart outset.held held (said outset.run (packets_of b.bytes) 0 h)) same.1 b.sent
       ];
 }
 
-pub whole_wanting : (start : Start) (left held : Option (List ℕ)) (history : List Entry) (given : List ℕ) (ends : Ending) → IsWhole start left held history given ends → IsWanting start held
-whole_wanting start left held history given ends w = record {
+pub whole_wanting : (outset : Outset) (left held : Option (List ℕ)) (history : List Entry) (given : List ℕ) (ends : Ending) → IsWhole outset left held history given ends → IsWanting outset held
+whole_wanting outset left held history given ends w = record {
   bytes = w.bytes;
   input = w.input;
-  sent = subst (λ (h : List Entry). IsSentInPart start.held held (said start.run (packets_of w.bytes) 0 h)) w.whole (sent_all start.held held (said start.run (packets_of w.bytes) 0 history) w.sent);
+  sent = subst (λ (h : List Entry). IsSentInPart outset.held held (said outset.run (packets_of w.bytes) 0 h)) w.whole (sent_all outset.held held (said outset.run (packets_of w.bytes) 0 history) w.sent);
 }
 
-pub reading_wanting : (start : Start) (left held : Option (List ℕ)) (s : Conversation) (rest : List ℕ) (taken : ℕ) → IsReading start left held s rest taken → IsWanting start held
-reading_wanting start left held s rest taken reading = broken_wanting start held (s.history ++ entry.Close 0 why.Fault ∷ entry.End ∷ []) (reading_breaks start left held s rest taken reading)
+pub reading_wanting : (outset : Outset) (left held : Option (List ℕ)) (s : Conversation) (rest : List ℕ) (taken : ℕ) → IsReading outset left held s rest taken → IsWanting outset held
+reading_wanting outset left held s rest taken reading = broken_wanting outset held (s.history ++ entry.Close 0 why.Fault ∷ entry.End ∷ []) (reading_breaks outset left held s rest taken reading)
 
 -- what an ending says of the output's count holds of both counts, where these stood still before
 pub cause_behind : (ends : Ending) (input here : SourceSeen) (out before now : SinkSeen) → here.faults ≡ input.faults → before.faults ≡ out.faults → IsOutputCause (Some ends) before now → IsCause ends input here out now

@@ -18,7 +18,7 @@ use Rattle.solo_session.specs.Pace.{batches, closing, input_limit, opening, pack
 use Rattle.solo_session.specs.Reading.{HasRead, IsReading}
 use Rattle.session_core.specs.Said.{last_words}
 use Rattle.solo_session.specs.Session.{HasSaid, HasServed, IsServedOf, IsServedSoFar, IsServing, Conversation}
-use Rattle.solo_session.specs.Solo.{EndsTooLong, IsBroken, IsWhole, Start, is_too_long}
+use Rattle.solo_session.specs.Solo.{EndsTooLong, IsBroken, IsWhole, Outset, is_too_long}
 use Rattle.outside.specs.Source.{IsInput}
 use Rattle.solo_session.specs.declared.solo.Ending.TheVariants as ending
 use Rattle.outside.proofs.SourceLemmas.{bytes_left, is_input, prepend_two, no_bytes, none_left}
@@ -27,7 +27,7 @@ use Rattle.outside.proofs.SinkLemmas.{sent_all, sent_more, sent_part, nothing_to
 use Rattle.solo_session.proofs.Extending.{Extends, closing_ended, closing_limit, closing_long, ending_ended, ending_limit, ending_long, extends-closing, extends-more_packets, extends-trans, solo_is}
 use Rattle.frame_zero.proofs.Streams.{has_too_long_done, wholes_done, ends_too_long, stays_too_long}
 
--- ---- the start, and a piece more
+-- ---- the outset, and a piece more
 
 pub reads_first : (s : Conversation) (left held : Option (List ℕ)) → HasServed [] s [] → IsReading (record { run = s.run; left = left; held = held }) left held s [] 0
 unfolding parts_of packets_from
@@ -51,9 +51,9 @@ map_append : (one other : List (List ℕ)) (more : List Packet) → map whole on
 map_append [] other more = refl
 map_append (p ∷ one) other more = ap (λ z. whole p ∷ z) (map_append one other more)
 
-pub reads_more : (start : Start) (left : Option (List ℕ)) (s now : Conversation) (rest piece more : List ℕ) (taken : ℕ) (told text : List ℕ) → HasRead start (prepend_known piece left) s rest taken told → taken + length piece ≤ input_limit
-    → IsServedSoFar (rest ++ piece) more s now [] text → HasRead start left now more (taken + length piece) (told ++ text)
-reads_more start left s now rest piece more taken told text read within so_far = record {
+pub reads_more : (outset : Outset) (left : Option (List ℕ)) (s now : Conversation) (rest piece more : List ℕ) (taken : ℕ) (told text : List ℕ) → HasRead outset (prepend_known piece left) s rest taken told → taken + length piece ≤ input_limit
+    → IsServedSoFar (rest ++ piece) more s now [] text → HasRead outset left now more (taken + length piece) (told ++ text)
+reads_more outset left s now rest piece more taken told text read within so_far = record {
   run = so_far.run ∙ read.run;
   given = read.given ++ piece;
   count = length-append read.given piece ∙ ap (λ z. z + length piece) read.count;
@@ -69,8 +69,8 @@ reads_more start left s now rest piece more taken told text read within so_far =
   served = so_far.served read.done told (subst (λ z. HasServed read.done s z) (sym (append-nil told)) read.served);
 }
 
-pub reading_serves : (start : Start) (left held : Option (List ℕ)) (s : Conversation) (rest : List ℕ) (taken : ℕ) → IsReading start left held s rest taken → IsServing s.run (replay s.history)
-reading_serves start left held s rest taken (told, read, sent, none) = read.served.has_said.serving
+pub reading_serves : (outset : Outset) (left held : Option (List ℕ)) (s : Conversation) (rest : List ℕ) (taken : ℕ) → IsReading outset left held s rest taken → IsServing s.run (replay s.history)
+reading_serves outset left held s rest taken (told, read, sent, none) = read.served.has_said.serving
 
 -- the first n bytes of a buffer that was written back whole
 front_of : (n len : ℕ) (buffer now more : List ℕ) → now ≡ take len (buffer ++ more) → length buffer ≡ len → take n now ≡ take n buffer
@@ -83,21 +83,21 @@ pub front_some : (n : ℕ) (buffer : List ℕ) → 0 < n → n ≤ length buffer
 front_some n buffer some within = (let e : length (take n buffer) ≡ n = length-take-le n buffer within in omega (arith, e, some))
 
 -- a piece was read, and stands at the front of the buffer
-pub reads_piece : (start : Start) (before left held : Option (List ℕ)) (s : Conversation) (rest : List ℕ) (taken n len : ℕ) (buffer now more : List ℕ) → IsReading start before held s rest taken → before ≡ prepend_known (take n buffer) left
-    → now ≡ take len (buffer ++ more) → length buffer ≡ len → IsReading start (prepend_known (take n now) left) held s rest taken
-reads_piece start before left held s rest taken n len buffer now more reading gave is long =
-    subst (λ z. IsReading start z held s rest taken) (gave ∙ ap (λ z. prepend_known z left) (sym (front_of n len buffer now more is long))) reading
+pub reads_piece : (outset : Outset) (before left held : Option (List ℕ)) (s : Conversation) (rest : List ℕ) (taken n len : ℕ) (buffer now more : List ℕ) → IsReading outset before held s rest taken → before ≡ prepend_known (take n buffer) left
+    → now ≡ take len (buffer ++ more) → length buffer ≡ len → IsReading outset (prepend_known (take n now) left) held s rest taken
+reads_piece outset before left held s rest taken n len buffer now more reading gave is long =
+    subst (λ z. IsReading outset z held s rest taken) (gave ∙ ap (λ z. prepend_known z left) (sym (front_of n len buffer now more is long))) reading
 
 -- a turn: the packets that end in a piece were served
-pub turned : (start : Start) (left : Option (List ℕ)) (s now : Conversation) (rest fed piece more : List ℕ) (taken : ℕ) (told before text : List ℕ) (ends : Bool) → HasRead start (prepend_known piece left) s rest taken told → taken + length piece ≤ input_limit
-    → fed ≡ rest ++ piece → before ≡ [] → IsServedOf fed more ends s now before text → HasRead start left now more (taken + length piece) (told ++ text)
-turned start left s now rest fed piece more taken told before text ends read within fed_is none served =
-    reads_more start left s now rest piece more taken told text read within (subst (λ z. IsServedSoFar z more s now [] text) fed_is (subst (λ z. IsServedSoFar fed more s now z text) none served.so_far))
+pub turned : (outset : Outset) (left : Option (List ℕ)) (s now : Conversation) (rest fed piece more : List ℕ) (taken : ℕ) (told before text : List ℕ) (ends : Bool) → HasRead outset (prepend_known piece left) s rest taken told → taken + length piece ≤ input_limit
+    → fed ≡ rest ++ piece → before ≡ [] → IsServedOf fed more ends s now before text → HasRead outset left now more (taken + length piece) (told ++ text)
+turned outset left s now rest fed piece more taken told before text ends read within fed_is none served =
+    reads_more outset left s now rest piece more taken told text read within (subst (λ z. IsServedSoFar z more s now [] text) fed_is (subst (λ z. IsServedSoFar fed more s now z text) none served.so_far))
 
-pub turned_given : (start : Start) (left : Option (List ℕ)) (s now : Conversation) (rest fed piece more : List ℕ) (taken : ℕ) (told before text : List ℕ) (ends : Bool) (read : HasRead start (prepend_known piece left) s rest taken told) (within : taken + length piece ≤ input_limit)
-    (fed_is : fed ≡ rest ++ piece) (none : before ≡ []) (served : IsServedOf fed more ends s now before text) → (turned start left s now rest fed piece more taken told before text ends read within fed_is none served).given ≡ read.given ++ piece
+pub turned_given : (outset : Outset) (left : Option (List ℕ)) (s now : Conversation) (rest fed piece more : List ℕ) (taken : ℕ) (told before text : List ℕ) (ends : Bool) (read : HasRead outset (prepend_known piece left) s rest taken told) (within : taken + length piece ≤ input_limit)
+    (fed_is : fed ≡ rest ++ piece) (none : before ≡ []) (served : IsServedOf fed more ends s now before text) → (turned outset left s now rest fed piece more taken told before text ends read within fed_is none served).given ≡ read.given ++ piece
 unfolding turned reads_more
-turned_given start left s now rest fed piece more taken told before text ends read within fed_is none served = refl
+turned_given outset left s now rest fed piece more taken told before text ends read within fed_is none served = refl
 
 pub left_long : (rest : List ℕ) (ends : Bool) → packets rest ≡ (if ends then too_long ∷ [] else []) → ends ≡ true → packets rest ≡ too_long ∷ []
 left_long rest ends is long = is ∙ cond-true ends (too_long ∷ []) [] long
@@ -108,7 +108,7 @@ left_none rest ends is short = is ∙ cond-false ends (too_long ∷ []) [] short
 -- ---- the bytes of the input
 
 -- these are the bytes of the input: those that were read, and more
-module _ (start : Start) (left : Option (List ℕ)) (s : Conversation) (rest : List ℕ) (taken : ℕ) (told : List ℕ) (read : HasRead start left s rest taken told) (more : List ℕ) where
+module _ (outset : Outset) (left : Option (List ℕ)) (s : Conversation) (rest : List ℕ) (taken : ℕ) (told : List ℕ) (read : HasRead outset left s rest taken told) (more : List ℕ) where
   all : List ℕ
   all = read.given ++ more
 
@@ -154,82 +154,82 @@ module _ (start : Start) (left : Option (List ℕ)) (s : Conversation) (rest : L
       ∙ ap (λ z. closing s.run all (with_packets s.run [] opening z)) (packets_all ∙ ap (λ z. read.done ++ z) none ∙ append-nil read.done)
       ∙ ap (λ z. closing s.run all z) (sym read.served.paced)
 
--- the same start of the run of a session
-abbrev pub started : Start → Run → Start
-started start run = record { run = run; left = start.left; held = start.held }
+-- the same outset of the run of a session
+abbrev pub started : Outset → Run → Outset
+started outset run = record { run = run; left = outset.left; held = outset.held }
 
 -- a fault breaks the session off
-pub broken : (start : Start) (left held : Option (List ℕ)) (s : Conversation) (rest : List ℕ) (taken : ℕ) (told : List ℕ) → HasRead start left s rest taken told → IsSentInPart start.held held told
-    → IsBroken start held (s.history ++ entry.Close 0 why.Fault ∷ entry.End ∷ [])
+pub broken : (outset : Outset) (left held : Option (List ℕ)) (s : Conversation) (rest : List ℕ) (taken : ℕ) (told : List ℕ) → HasRead outset left s rest taken told → IsSentInPart outset.held held told
+    → IsBroken outset held (s.history ++ entry.Close 0 why.Fault ∷ entry.End ∷ [])
 unfolding all
-broken start left held s rest taken told read sent =
-    let begins = begins_solo start left s rest taken told read (bytes_left left) in
-    subst (λ (r : Run). IsBroken (started start r) held (s.history ++ entry.Close 0 why.Fault ∷ entry.End ∷ [])) read.run
-    (cut_off s (all start left s rest taken told read (bytes_left left)) read.done (wholes (packets (rest ++ later start left s rest taken told read (bytes_left left)))) told begins.0 start.left start.held held read.served.has_said
-    (packets_all start left s rest taken told read (bytes_left left)) (is_input start.left left read.given read.read) begins.1 sent)
+broken outset left held s rest taken told read sent =
+    let begins = begins_solo outset left s rest taken told read (bytes_left left) in
+    subst (λ (r : Run). IsBroken (started outset r) held (s.history ++ entry.Close 0 why.Fault ∷ entry.End ∷ [])) read.run
+    (cut_off s (all outset left s rest taken told read (bytes_left left)) read.done (wholes (packets (rest ++ later outset left s rest taken told read (bytes_left left)))) told begins.0 outset.left outset.held held read.served.has_said
+    (packets_all outset left s rest taken told read (bytes_left left)) (is_input outset.left left read.given read.read) begins.1 sent)
 
-pub reading_breaks : (start : Start) (left held : Option (List ℕ)) (s : Conversation) (rest : List ℕ) (taken : ℕ) → IsReading start left held s rest taken → IsBroken start held (s.history ++ entry.Close 0 why.Fault ∷ entry.End ∷ [])
-reading_breaks start left held s rest taken (told, read, sent, none) = broken start left held s rest taken told read (sent_all start.held held told sent)
+pub reading_breaks : (outset : Outset) (left held : Option (List ℕ)) (s : Conversation) (rest : List ℕ) (taken : ℕ) → IsReading outset left held s rest taken → IsBroken outset held (s.history ++ entry.Close 0 why.Fault ∷ entry.End ∷ [])
+reading_breaks outset left held s rest taken (told, read, sent, none) = broken outset left held s rest taken told read (sent_all outset.held held told sent)
 
 -- ---- a part that is too long
 
-module _ (start : Start) (left : Option (List ℕ)) (s : Conversation) (rest : List ℕ) (taken : ℕ) (told : List ℕ) (read : HasRead start left s rest taken told) (long : packets rest ≡ too_long ∷ []) where
+module _ (outset : Outset) (left : Option (List ℕ)) (s : Conversation) (rest : List ℕ) (taken : ℕ) (told : List ℕ) (read : HasRead outset left s rest taken told) (long : packets rest ≡ too_long ∷ []) where
   long_all : List ℕ
-  long_all = all start left s rest taken told read (bytes_left left)
+  long_all = all outset left s rest taken told read (bytes_left left)
 
   long_later : List ℕ
-  long_later = later start left s rest taken told read (bytes_left left)
+  long_later = later outset left s rest taken told read (bytes_left left)
 
   behind : packets (rest ++ long_later) ≡ too_long ∷ []
   behind = stays_too_long rest long_later long
 
   is_long : is_too_long long_all ≡ true
   unfolding has_too_long long_all long_later
-  is_long = too_long_there start left s rest taken told read (bytes_left left) ∙ ap has_too_long behind
+  is_long = too_long_there outset left s rest taken told read (bytes_left left) ∙ ap has_too_long behind
 
   long_packets : packets_of long_all ≡ read.done ++ wholes (packets (rest ++ long_later))
   unfolding long_all long_later
-  long_packets = packets_all start left s rest taken told read (bytes_left left)
+  long_packets = packets_all outset left s rest taken told read (bytes_left left)
 
-  long_input : IsInput start.left long_all
+  long_input : IsInput outset.left long_all
   unfolding long_all all
-  long_input = is_input start.left left read.given read.read
+  long_input = is_input outset.left left read.given read.read
 
   solo_long : solo_history s.run long_all ≡ s.history ++ entry.Close 0 why.TooLong ∷ entry.End ∷ []
   unfolding wholes long_all long_later
-  solo_long = solo_here start left s rest taken told read (bytes_left left) (ap wholes behind) ∙ closing_long s.run long_all s.history is_long
+  solo_long = solo_here outset left s rest taken told read (bytes_left left) (ap wholes behind) ∙ closing_long s.run long_all s.history is_long
 
-  long_whole : EndsTooLong read.given → (held : Option (List ℕ)) → held ≡ append_known start.held (told ++ last_words why.TooLong) → IsWhole (started start s.run) left held (s.history ++ entry.Close 0 why.TooLong ∷ entry.End ∷ []) read.given ending.Served
+  long_whole : EndsTooLong read.given → (held : Option (List ℕ)) → held ≡ append_known outset.held (told ++ last_words why.TooLong) → IsWhole (started outset s.run) left held (s.history ++ entry.Close 0 why.TooLong ∷ entry.End ∷ []) read.given ending.Served
   long_whole ends held sent =
-      whole_of s long_all read.done (wholes (packets (rest ++ long_later))) told read.served.has_said long_packets why.TooLong start.left left start.held held read.given ending.Served long_input (ending_long long_all is_long) (inr ends) solo_long sent
+      whole_of s long_all read.done (wholes (packets (rest ++ long_later))) told read.served.has_said long_packets why.TooLong outset.left left outset.held held read.given ending.Served long_input (ending_long long_all is_long) (inr ends) solo_long sent
 
-  long_in_part : (held : Option (List ℕ)) → IsSentInPart start.held held (told ++ last_words why.TooLong) → IsBroken (started start s.run) held (s.history ++ entry.Close 0 why.TooLong ∷ entry.End ∷ [])
+  long_in_part : (held : Option (List ℕ)) → IsSentInPart outset.held held (told ++ last_words why.TooLong) → IsBroken (started outset s.run) held (s.history ++ entry.Close 0 why.TooLong ∷ entry.End ∷ [])
   long_in_part held sent =
-      whole_in_part s long_all read.done (wholes (packets (rest ++ long_later))) told read.served.has_said long_packets why.TooLong start.left start.held held long_input is_long solo_long sent
+      whole_in_part s long_all read.done (wholes (packets (rest ++ long_later))) told read.served.has_said long_packets why.TooLong outset.left outset.held held long_input is_long solo_long sent
 
-pub refused : (start : Start) (left held : Option (List ℕ)) (s : Conversation) (rest : List ℕ) (taken : ℕ) (told : List ℕ) (read : HasRead start left s rest taken told) → packets rest ≡ too_long ∷ [] → EndsTooLong read.given → held ≡ append_known start.held (told ++ last_words why.TooLong)
-    → IsWhole start left held (s.history ++ entry.Close 0 why.TooLong ∷ entry.End ∷ []) read.given ending.Served
-refused start left held s rest taken told read long ends sent =
-    subst (λ (r : Run). IsWhole (started start r) left held (s.history ++ entry.Close 0 why.TooLong ∷ entry.End ∷ []) read.given ending.Served) read.run (long_whole start left s rest taken told read long ends held sent)
+pub refused : (outset : Outset) (left held : Option (List ℕ)) (s : Conversation) (rest : List ℕ) (taken : ℕ) (told : List ℕ) (read : HasRead outset left s rest taken told) → packets rest ≡ too_long ∷ [] → EndsTooLong read.given → held ≡ append_known outset.held (told ++ last_words why.TooLong)
+    → IsWhole outset left held (s.history ++ entry.Close 0 why.TooLong ∷ entry.End ∷ []) read.given ending.Served
+refused outset left held s rest taken told read long ends sent =
+    subst (λ (r : Run). IsWhole (started outset r) left held (s.history ++ entry.Close 0 why.TooLong ∷ entry.End ∷ []) read.given ending.Served) read.run (long_whole outset left s rest taken told read long ends held sent)
 
-pub refused_in_part : (start : Start) (left held : Option (List ℕ)) (s : Conversation) (rest : List ℕ) (taken : ℕ) (told : List ℕ) → HasRead start left s rest taken told → packets rest ≡ too_long ∷ [] → IsSentInPart start.held held (told ++ last_words why.TooLong)
-    → IsBroken start held (s.history ++ entry.Close 0 why.TooLong ∷ entry.End ∷ [])
-refused_in_part start left held s rest taken told read long sent =
-    subst (λ (r : Run). IsBroken (started start r) held (s.history ++ entry.Close 0 why.TooLong ∷ entry.End ∷ [])) read.run (long_in_part start left s rest taken told read long held sent)
+pub refused_in_part : (outset : Outset) (left held : Option (List ℕ)) (s : Conversation) (rest : List ℕ) (taken : ℕ) (told : List ℕ) → HasRead outset left s rest taken told → packets rest ≡ too_long ∷ [] → IsSentInPart outset.held held (told ++ last_words why.TooLong)
+    → IsBroken outset held (s.history ++ entry.Close 0 why.TooLong ∷ entry.End ∷ [])
+refused_in_part outset left held s rest taken told read long sent =
+    subst (λ (r : Run). IsBroken (started outset r) held (s.history ++ entry.Close 0 why.TooLong ∷ entry.End ∷ [])) read.run (long_in_part outset left s rest taken told read long held sent)
 
 -- ---- no more bytes are served
 
-module _ (start : Start) (left : Option (List ℕ)) (s : Conversation) (rest : List ℕ) (taken : ℕ) (told : List ℕ) (read : HasRead start left s rest taken told) (more : List ℕ) (none : packets rest ≡ []) (done : later start left s rest taken told read more ≡ []) where
-  none_behind : packets (rest ++ later start left s rest taken told read more) ≡ []
+module _ (outset : Outset) (left : Option (List ℕ)) (s : Conversation) (rest : List ℕ) (taken : ℕ) (told : List ℕ) (read : HasRead outset left s rest taken told) (more : List ℕ) (none : packets rest ≡ []) (done : later outset left s rest taken told read more ≡ []) where
+  none_behind : packets (rest ++ later outset left s rest taken told read more) ≡ []
   none_behind = ap (λ z. packets (rest ++ z)) done ∙ ap packets (append-nil rest) ∙ none
 
-  is_short : is_too_long (all start left s rest taken told read more) ≡ false
+  is_short : is_too_long (all outset left s rest taken told read more) ≡ false
   unfolding has_too_long
-  is_short = too_long_there start left s rest taken told read more ∙ ap has_too_long none_behind
+  is_short = too_long_there outset left s rest taken told read more ∙ ap has_too_long none_behind
 
-  solo_short : solo_history s.run (all start left s rest taken told read more) ≡ closing s.run (all start left s rest taken told read more) s.history
+  solo_short : solo_history s.run (all outset left s rest taken told read more) ≡ closing s.run (all outset left s rest taken told read more) s.history
   unfolding wholes
-  solo_short = solo_here start left s rest taken told read more (ap wholes none_behind)
+  solo_short = solo_here outset left s rest taken told read more (ap wholes none_behind)
 
 -- ---- more bytes than are read
 
@@ -245,17 +245,17 @@ take_no n bytes is = ap (λ z. take z bytes) is
 limit_words : (told : List ℕ) → told ++ last_words why.Limit ≡ told
 limit_words told = append-nil told
 
-module _ (start : Start) (left : Option (List ℕ)) (s : Conversation) (rest piece : List ℕ) (taken : ℕ) (told : List ℕ) (read : HasRead start (prepend_known piece left) s rest taken told) (none : packets rest ≡ []) (full : taken ≡ input_limit) (some : 0 < length piece) (one : length piece ≤ 1) where
+module _ (outset : Outset) (left : Option (List ℕ)) (s : Conversation) (rest piece : List ℕ) (taken : ℕ) (told : List ℕ) (read : HasRead outset (prepend_known piece left) s rest taken told) (none : packets rest ≡ []) (full : taken ≡ input_limit) (some : 0 < length piece) (one : length piece ≤ 1) where
   over_all : List ℕ
-  over_all = all start (prepend_known piece left) s rest taken told read (piece ++ bytes_left left)
+  over_all = all outset (prepend_known piece left) s rest taken told read (piece ++ bytes_left left)
 
-  none_later : later start (prepend_known piece left) s rest taken told read (piece ++ bytes_left left) ≡ []
+  none_later : later outset (prepend_known piece left) s rest taken told read (piece ++ bytes_left left) ≡ []
   unfolding later
   none_later = take_no (input_limit - taken) (piece ++ bytes_left left) (omega (arith, full))
 
-  over_input : IsInput start.left over_all
+  over_input : IsInput outset.left over_all
   unfolding over_all all
-  over_input = subst (λ z. IsInput start.left z) (append_assoc read.given piece (bytes_left left)) (is_input start.left left (read.given ++ piece) (read.read ∙ prepend_two read.given piece left))
+  over_input = subst (λ z. IsInput outset.left z) (append_assoc read.given piece (bytes_left left)) (is_input outset.left left (read.given ++ piece) (read.read ∙ prepend_two read.given piece left))
 
   is_over : nat_lt input_limit (length over_all) ≡ true
   unfolding over_all all
@@ -263,28 +263,28 @@ module _ (start : Start) (left : Option (List ℕ)) (s : Conversation) (rest pie
 
   over_short : is_too_long over_all ≡ false
   unfolding over_all
-  over_short = is_short start (prepend_known piece left) s rest taken told read (piece ++ bytes_left left) none none_later
+  over_short = is_short outset (prepend_known piece left) s rest taken told read (piece ++ bytes_left left) none none_later
 
-  over_packets : packets_of over_all ≡ read.done ++ wholes (packets (rest ++ later start (prepend_known piece left) s rest taken told read (piece ++ bytes_left left)))
+  over_packets : packets_of over_all ≡ read.done ++ wholes (packets (rest ++ later outset (prepend_known piece left) s rest taken told read (piece ++ bytes_left left)))
   unfolding over_all
-  over_packets = packets_all start (prepend_known piece left) s rest taken told read (piece ++ bytes_left left)
+  over_packets = packets_all outset (prepend_known piece left) s rest taken told read (piece ++ bytes_left left)
 
   solo_over : solo_history s.run over_all ≡ s.history ++ entry.Close 0 why.Limit ∷ entry.End ∷ []
   unfolding over_all
-  solo_over = solo_short start (prepend_known piece left) s rest taken told read (piece ++ bytes_left left) none none_later ∙ closing_limit s.run over_all s.history over_short is_over
+  solo_over = solo_short outset (prepend_known piece left) s rest taken told read (piece ++ bytes_left left) none none_later ∙ closing_limit s.run over_all s.history over_short is_over
 
   over_read : length (read.given ++ piece) ≡ input_limit + 1
   over_read = (let e : length read.given ≡ taken = read.count in omega (arith, e, full, some, one, length-append read.given piece))
 
-  over_whole : (held : Option (List ℕ)) → held ≡ append_known start.held told → IsWhole (started start s.run) left held (s.history ++ entry.Close 0 why.Limit ∷ entry.End ∷ []) (read.given ++ piece) ending.Limit
+  over_whole : (held : Option (List ℕ)) → held ≡ append_known outset.held told → IsWhole (started outset s.run) left held (s.history ++ entry.Close 0 why.Limit ∷ entry.End ∷ []) (read.given ++ piece) ending.Limit
   over_whole held sent =
-      whole_of s over_all read.done (wholes (packets (rest ++ later start (prepend_known piece left) s rest taken told read (piece ++ bytes_left left)))) told read.served.has_said over_packets why.Limit
-      start.left left start.held held (read.given ++ piece) ending.Limit over_input (ending_limit over_all over_short is_over) over_read solo_over (sent ∙ ap (λ z. append_known start.held z) (sym (limit_words told)))
+      whole_of s over_all read.done (wholes (packets (rest ++ later outset (prepend_known piece left) s rest taken told read (piece ++ bytes_left left)))) told read.served.has_said over_packets why.Limit
+      outset.left left outset.held held (read.given ++ piece) ending.Limit over_input (ending_limit over_all over_short is_over) over_read solo_over (sent ∙ ap (λ z. append_known outset.held z) (sym (limit_words told)))
 
-pub at_limit : (start : Start) (left held : Option (List ℕ)) (s : Conversation) (rest piece : List ℕ) (taken : ℕ) (reading : IsReading start (prepend_known piece left) held s rest taken) → taken ≡ input_limit → 0 < length piece → length piece ≤ 1
-    → IsWhole start left held (s.history ++ entry.Close 0 why.Limit ∷ entry.End ∷ []) (reading.1.given ++ piece) ending.Limit
-at_limit start left held s rest piece taken (told, read, sent, none) full some one =
-    subst (λ (r : Run). IsWhole (started start r) left held (s.history ++ entry.Close 0 why.Limit ∷ entry.End ∷ []) (read.given ++ piece) ending.Limit) read.run (over_whole start left s rest piece taken told read none full some one held sent)
+pub at_limit : (outset : Outset) (left held : Option (List ℕ)) (s : Conversation) (rest piece : List ℕ) (taken : ℕ) (reading : IsReading outset (prepend_known piece left) held s rest taken) → taken ≡ input_limit → 0 < length piece → length piece ≤ 1
+    → IsWhole outset left held (s.history ++ entry.Close 0 why.Limit ∷ entry.End ∷ []) (reading.1.given ++ piece) ending.Limit
+at_limit outset left held s rest piece taken (told, read, sent, none) full some one =
+    subst (λ (r : Run). IsWhole (started outset r) left held (s.history ++ entry.Close 0 why.Limit ∷ entry.End ∷ []) (read.given ++ piece) ending.Limit) read.run (over_whole outset left s rest piece taken told read none full some one held sent)
 
 -- ---- the end of the input
 
@@ -296,17 +296,17 @@ take_none (suc n) = refl
 abbrev pub ran_out : Conversation → Conversation
 ran_out s = record s { history = batches (facts_of s.run) s.run.count s.history }
 
-module _ (start : Start) (left : Option (List ℕ)) (s : Conversation) (rest : List ℕ) (taken : ℕ) (told text : List ℕ) (read : HasRead start left s rest taken told) (none : packets rest ≡ []) (ends : IsAtEnd left) (has : HasSaid read.done (ran_out s) (told ++ text)) where
+module _ (outset : Outset) (left : Option (List ℕ)) (s : Conversation) (rest : List ℕ) (taken : ℕ) (told text : List ℕ) (read : HasRead outset left s rest taken told) (none : packets rest ≡ []) (ends : IsAtEnd left) (has : HasSaid read.done (ran_out s) (told ++ text)) where
   end_all : List ℕ
-  end_all = all start left s rest taken told read (bytes_left left)
+  end_all = all outset left s rest taken told read (bytes_left left)
 
-  end_later : later start left s rest taken told read (bytes_left left) ≡ []
+  end_later : later outset left s rest taken told read (bytes_left left) ≡ []
   unfolding later
   end_later = ap (λ z. take (input_limit - taken) z) (none_left left ends) ∙ take_none (input_limit - taken)
 
-  end_input : IsInput start.left end_all
+  end_input : IsInput outset.left end_all
   unfolding end_all all
-  end_input = is_input start.left left read.given read.read
+  end_input = is_input outset.left left read.given read.read
 
   end_within : nat_lt input_limit (length end_all) ≡ false
   unfolding end_all all
@@ -314,24 +314,24 @@ module _ (start : Start) (left : Option (List ℕ)) (s : Conversation) (rest : L
 
   end_short : is_too_long end_all ≡ false
   unfolding end_all
-  end_short = is_short start left s rest taken told read (bytes_left left) none end_later
+  end_short = is_short outset left s rest taken told read (bytes_left left) none end_later
 
-  end_packets : packets_of end_all ≡ read.done ++ wholes (packets (rest ++ later start left s rest taken told read (bytes_left left)))
+  end_packets : packets_of end_all ≡ read.done ++ wholes (packets (rest ++ later outset left s rest taken told read (bytes_left left)))
   unfolding end_all
-  end_packets = packets_all start left s rest taken told read (bytes_left left)
+  end_packets = packets_all outset left s rest taken told read (bytes_left left)
 
   solo_end : solo_history s.run end_all ≡ (ran_out s).history ++ entry.Close 0 why.Ended ∷ entry.End ∷ []
   unfolding end_all
-  solo_end = solo_short start left s rest taken told read (bytes_left left) none end_later ∙ closing_ended s.run end_all s.history end_short end_within
+  solo_end = solo_short outset left s rest taken told read (bytes_left left) none end_later ∙ closing_ended s.run end_all s.history end_short end_within
 
-  end_whole : (held : Option (List ℕ)) → held ≡ append_known start.held (told ++ text) → IsWhole (started start s.run) left held ((ran_out s).history ++ entry.Close 0 why.Ended ∷ entry.End ∷ []) read.given ending.Served
+  end_whole : (held : Option (List ℕ)) → held ≡ append_known outset.held (told ++ text) → IsWhole (started outset s.run) left held ((ran_out s).history ++ entry.Close 0 why.Ended ∷ entry.End ∷ []) read.given ending.Served
   end_whole held sent =
-      whole_of (ran_out s) end_all read.done (wholes (packets (rest ++ later start left s rest taken told read (bytes_left left)))) (told ++ text) has end_packets why.Ended
-      start.left left start.held held read.given ending.Served end_input (ending_ended end_all end_short end_within) (inl ends) solo_end (sent ∙ ap (λ z. append_known start.held z) (sym (append-nil (told ++ text))))
+      whole_of (ran_out s) end_all read.done (wholes (packets (rest ++ later outset left s rest taken told read (bytes_left left)))) (told ++ text) has end_packets why.Ended
+      outset.left left outset.held held read.given ending.Served end_input (ending_ended end_all end_short end_within) (inl ends) solo_end (sent ∙ ap (λ z. append_known outset.held z) (sym (append-nil (told ++ text))))
 
-  end_broken : (held : Option (List ℕ)) → IsSentInPart start.held held (told ++ text) → IsBroken (started start s.run) held ((ran_out s).history ++ entry.Close 0 why.Fault ∷ entry.End ∷ [])
+  end_broken : (held : Option (List ℕ)) → IsSentInPart outset.held held (told ++ text) → IsBroken (started outset s.run) held ((ran_out s).history ++ entry.Close 0 why.Fault ∷ entry.End ∷ [])
   end_broken held sent =
-      cut_off (ran_out s) end_all read.done (wholes (packets (rest ++ later start left s rest taken told read (bytes_left left)))) (told ++ text) (entry.Close 0 why.Ended ∷ entry.End ∷ []) start.left start.held held has end_packets end_input solo_end sent
+      cut_off (ran_out s) end_all read.done (wholes (packets (rest ++ later outset left s rest taken told read (bytes_left left)))) (told ++ text) (entry.Close 0 why.Ended ∷ entry.End ∷ []) outset.left outset.held held has end_packets end_input solo_end sent
 
 -- what the recording puts behind the text is said to the client
 abbrev pub SaysOn : Conversation → Conversation → List ℕ → Type 0
@@ -340,16 +340,16 @@ SaysOn s next text = (ps : List (List ℕ)) (sent : List ℕ) → HasSaid ps s (
 pub said_on : (s next : Conversation) (text : List ℕ) (ps : List (List ℕ)) (told : List ℕ) → SaysOn s next text → next ≡ ran_out s → HasSaid ps s told → HasSaid ps (ran_out s) (told ++ text)
 said_on s next text ps told says is has = subst (λ n. HasSaid ps n (told ++ text)) is (says ps told (subst (λ z. HasSaid ps s z) (sym (append-nil told)) has))
 
-pub finished : (start : Start) (left here held : Option (List ℕ)) (s next : Conversation) (rest : List ℕ) (taken : ℕ) (text : List ℕ) (reading : IsReading start left here s rest taken) → IsAtEnd left → next ≡ ran_out s → SaysOn s next text → held ≡ append_known here text
-    → IsWhole start left held (next.history ++ entry.Close 0 why.Ended ∷ entry.End ∷ []) reading.1.given ending.Served
-finished start left here held s next rest taken text (told, read, sent, none) ends is says all_sent =
-    subst (λ (n : Conversation). IsWhole start left held (n.history ++ entry.Close 0 why.Ended ∷ entry.End ∷ []) read.given ending.Served) (sym is)
-    (subst (λ (r : Run). IsWhole (started start r) left held ((ran_out s).history ++ entry.Close 0 why.Ended ∷ entry.End ∷ []) read.given ending.Served) read.run
-    (end_whole start left s rest taken told text read none ends (said_on s next text read.done told says is read.served.has_said) held (sent_more start.held here held told text sent all_sent)))
+pub finished : (outset : Outset) (left here held : Option (List ℕ)) (s next : Conversation) (rest : List ℕ) (taken : ℕ) (text : List ℕ) (reading : IsReading outset left here s rest taken) → IsAtEnd left → next ≡ ran_out s → SaysOn s next text → held ≡ append_known here text
+    → IsWhole outset left held (next.history ++ entry.Close 0 why.Ended ∷ entry.End ∷ []) reading.1.given ending.Served
+finished outset left here held s next rest taken text (told, read, sent, none) ends is says all_sent =
+    subst (λ (n : Conversation). IsWhole outset left held (n.history ++ entry.Close 0 why.Ended ∷ entry.End ∷ []) read.given ending.Served) (sym is)
+    (subst (λ (r : Run). IsWhole (started outset r) left held ((ran_out s).history ++ entry.Close 0 why.Ended ∷ entry.End ∷ []) read.given ending.Served) read.run
+    (end_whole outset left s rest taken told text read none ends (said_on s next text read.done told says is read.served.has_said) held (sent_more outset.held here held told text sent all_sent)))
 
-pub finished_in_part : (start : Start) (left here held : Option (List ℕ)) (s next : Conversation) (rest : List ℕ) (taken : ℕ) (text : List ℕ) → IsReading start left here s rest taken → IsAtEnd left → next ≡ ran_out s → SaysOn s next text → TookPart here held text
-    → IsBroken start held (next.history ++ entry.Close 0 why.Fault ∷ entry.End ∷ [])
-finished_in_part start left here held s next rest taken text (told, read, sent, none) ends is says part =
-    subst (λ (n : Conversation). IsBroken start held (n.history ++ entry.Close 0 why.Fault ∷ entry.End ∷ [])) (sym is)
-    (subst (λ (r : Run). IsBroken (started start r) held ((ran_out s).history ++ entry.Close 0 why.Fault ∷ entry.End ∷ [])) read.run
-    (end_broken start left s rest taken told text read none ends (said_on s next text read.done told says is read.served.has_said) held (sent_part start.held here held told text sent part)))
+pub finished_in_part : (outset : Outset) (left here held : Option (List ℕ)) (s next : Conversation) (rest : List ℕ) (taken : ℕ) (text : List ℕ) → IsReading outset left here s rest taken → IsAtEnd left → next ≡ ran_out s → SaysOn s next text → TookPart here held text
+    → IsBroken outset held (next.history ++ entry.Close 0 why.Fault ∷ entry.End ∷ [])
+finished_in_part outset left here held s next rest taken text (told, read, sent, none) ends is says part =
+    subst (λ (n : Conversation). IsBroken outset held (n.history ++ entry.Close 0 why.Fault ∷ entry.End ∷ [])) (sym is)
+    (subst (λ (r : Run). IsBroken (started outset r) held ((ran_out s).history ++ entry.Close 0 why.Fault ∷ entry.End ∷ [])) read.run
+    (end_broken outset left s rest taken told text read none ends (said_on s next text read.done told says is read.served.has_said) held (sent_part outset.held here held told text sent part)))

@@ -4,7 +4,7 @@ use Rattle.std.specs.Io.KnownBytes.{append_known, prepend_known}
 use Rattle.frame_zero.specs.Packets.{packets, whole}
 use Rattle.solo_session.specs.Pace.{input_limit}
 use Rattle.solo_session.specs.Session.{HasServed, Conversation}
-use Rattle.solo_session.specs.Solo.{IsCause, IsEnded, Start}
+use Rattle.solo_session.specs.Solo.{IsCause, IsEnded, Outset}
 use Rattle.solo_session.specs.declared.solo.Ending.{Ending}
 use Rattle.solo_session.specs.declared.solo.Ending.TheVariants as ending
 use Rattle.outside.specs.Sink.{SinkSeen, TookPart}
@@ -12,26 +12,26 @@ use Rattle.outside.specs.Source.{SourceSeen}
 
 -- so many bytes were read, of which the rest is in no packet yet; the packets of the others were served, and this is what
 -- they were to be told
-pub record HasRead (start : Start) (left : Option (List ℕ)) (s : Conversation) (rest : List ℕ) (taken : ℕ) (told : List ℕ) : Type 0 where
-  pub run : s.run ≡ start.run
+pub record HasRead (outset : Outset) (left : Option (List ℕ)) (s : Conversation) (rest : List ℕ) (taken : ℕ) (told : List ℕ) : Type 0 where
+  pub run : s.run ≡ outset.run
   pub given : List ℕ
   pub count : length given ≡ taken
   pub within : taken ≤ input_limit
-  pub read : start.left ≡ prepend_known given left
+  pub read : outset.left ≡ prepend_known given left
   pub done : List (List ℕ)
   -- whatever more there is to the bytes
   pub parts : (more : List ℕ) → packets (given ++ more) ≡ map whole done ++ packets (rest ++ more)
   pub served : HasServed done s told
 
 -- the same, no packet is in the rest, and all that was to be told came behind what the output held
-abbrev pub IsReading : Start → Option (List ℕ) → Option (List ℕ) → Conversation → List ℕ → ℕ → Type 0
-IsReading start left held s rest taken =
-    (told : List ℕ) × HasRead start left s rest taken told × (held ≡ append_known start.held told) × (packets rest ≡ [])
+abbrev pub IsReading : Outset → Option (List ℕ) → Option (List ℕ) → Conversation → List ℕ → ℕ → Type 0
+IsReading outset left held s rest taken =
+    (told : List ℕ) × HasRead outset left s rest taken told × (held ≡ append_known outset.held told) × (packets rest ≡ [])
 
 -- the session goes on, or has ended
-abbrev pub IsTurn : Start → Option (List ℕ) → Option (List ℕ) → Conversation → List ℕ → ℕ → Option Ending → Type 0
-IsTurn start left held s rest taken None = IsReading start left held s rest taken
-IsTurn start left held s rest taken (Some ends) = IsEnded start left held s.history ends
+abbrev pub IsTurn : Outset → Option (List ℕ) → Option (List ℕ) → Conversation → List ℕ → ℕ → Option Ending → Type 0
+IsTurn outset left held s rest taken None = IsReading outset left held s rest taken
+IsTurn outset left held s rest taken (Some ends) = IsEnded outset left held s.history ends
 
 -- the output's count of faults, where it goes on or has ended and the input did not fail
 abbrev pub IsOutputCause : Option Ending → SinkSeen → SinkSeen → Type 0

@@ -11,7 +11,7 @@ use Rattle.hall_core.specs.declared.entry.Entry.{Entry}
 use Rattle.hall_core.specs.declared.entry.Entry.TheVariants as entry
 use Rattle.hall_core.specs.declared.entry.Goal.{Goal}
 use Rattle.hall_core.specs.declared.entry.Goal.TheVariants as goal
-use Rattle.session_core.specs.Refusals.{Reading, is_greeted}
+use Rattle.session_core.specs.Refusals.{Asking, is_greeted}
 use Rattle.session_core.specs.Replies.{act_in, event}
 use Rattle.session_core.specs.Said.{Agrees, packets_in, said}
 use Rattle.solo_session.specs.Pace.{opening, with_packets}
@@ -55,7 +55,7 @@ is_run_act (act.Run m kinds) = true
 is_run_act act.Pause = false
 
 -- the entry of a packet
-abbrev pub packet_entry : Conversation → Reading → Entry
+abbrev pub packet_entry : Conversation → Asking → Entry
 packet_entry s read = entry.Packet 0 (act_in s.run s.greeted read)
 
 -- these are the client's packets so far, what it was said is theirs, and the history is legal

@@ -17,13 +17,13 @@ use Rattle.solo_session.specs.declared.solo.Ending.{Ending}
 use Rattle.solo_session.specs.declared.solo.Ending.TheVariants as ending
 
 -- what a session begins with: the run, what the input has left and what the output holds, where these tell it
-pub record Start : Type 0 where
+pub record Outset : Type 0 where
   pub run : Run
   pub left : Option (List ℕ)
   pub held : Option (List ℕ)
 
-abbrev pub start_of : Run → SourceSeen → SinkSeen → Start
-start_of run input out = record { run = run; left = input.left; held = out.held }
+abbrev pub outset_of : Run → SourceSeen → SinkSeen → Outset
+outset_of run input out = record { run = run; left = input.left; held = out.held }
 
 -- the history may be one of the run, and its packets are the client's
 pub record IsSession (run : Run) (bytes : List ℕ) (history : List Entry) : Type 0 where
@@ -61,14 +61,14 @@ IsReadOn ending.OutputFailed left given = ⊤
 
 -- the history is the one that the client's bytes give, and all that it says to the client came behind what the output held;
 -- `given` are the bytes that were read
-pub record IsWhole (start : Start) (left held : Option (List ℕ)) (history : List Entry) (given : List ℕ) (ends : Ending) : Type 0 where
+pub record IsWhole (outset : Outset) (left held : Option (List ℕ)) (history : List Entry) (given : List ℕ) (ends : Ending) : Type 0 where
   pub bytes : List ℕ
-  pub input : IsInput start.left bytes
+  pub input : IsInput outset.left bytes
   pub ended : ends ≡ ending_of bytes
   pub read_on : IsReadOn ends left given
-  pub session : IsSession start.run bytes history
-  pub whole : history ≡ solo_history start.run bytes
-  pub sent : held ≡ append_known start.held (said start.run (packets_of bytes) 0 history)
+  pub session : IsSession outset.run bytes history
+  pub whole : history ≡ solo_history outset.run bytes
+  pub sent : held ≡ append_known outset.held (said outset.run (packets_of bytes) 0 history)
 
 -- a beginning of a history, and the end for a fault
 pub record IsCutOff (whole history : List Entry) : Type 0 where
@@ -79,17 +79,17 @@ pub record IsCutOff (whole history : List Entry) : Type 0 where
 
 -- a fault broke the history off, or the output failed when it was whole already, since a part of the bytes is too long; a
 -- beginning of what it says to the client came behind what the output held
-pub record IsBroken (start : Start) (held : Option (List ℕ)) (history : List Entry) : Type 0 where
+pub record IsBroken (outset : Outset) (held : Option (List ℕ)) (history : List Entry) : Type 0 where
   pub bytes : List ℕ
-  pub input : IsInput start.left bytes
-  pub session : IsSession start.run bytes history
-  pub broken : IsCutOff (solo_history start.run bytes) history ⊎ ((is_too_long bytes ≡ true) × (history ≡ solo_history start.run bytes))
-  pub sent : IsSentInPart start.held held (said start.run (packets_of bytes) 0 history)
+  pub input : IsInput outset.left bytes
+  pub session : IsSession outset.run bytes history
+  pub broken : IsCutOff (solo_history outset.run bytes) history ⊎ ((is_too_long bytes ≡ true) × (history ≡ solo_history outset.run bytes))
+  pub sent : IsSentInPart outset.held held (said outset.run (packets_of bytes) 0 history)
 
 -- the packets of the bytes that were read have their entries, and all that these say came behind what the output held
-pub record IsServedTo (start : Start) (held : Option (List ℕ)) (history : List Entry) (given : List ℕ) : Type 0 where
-  pub whole : history ≡ course start.run given ++ entry.Close 0 why.Fault ∷ entry.End ∷ []
-  pub sent : held ≡ append_known start.held (said start.run (packets_of given) 0 history)
+pub record IsServedTo (outset : Outset) (held : Option (List ℕ)) (history : List Entry) (given : List ℕ) : Type 0 where
+  pub whole : history ≡ course outset.run given ++ entry.Close 0 why.Fault ∷ entry.End ∷ []
+  pub sent : held ≡ append_known outset.held (said outset.run (packets_of given) 0 history)
 
 -- all that is due to the client when the packets of these bytes were served
 abbrev pub due : Run → List ℕ → List ℕ
@@ -105,14 +105,14 @@ pub data IsCutShort (run : Run) (left : Option (List ℕ)) (given last : List �
 
 -- what a write leaves that failed: nothing was read on behind it, the history has no packet that was not read, all that was
 -- due before the last piece was read had come, and of what the history says besides a part came
-pub record IsUnsent (start : Start) (left held : Option (List ℕ)) (history : List Entry) (given : List ℕ) : Type 0 where
+pub record IsUnsent (outset : Outset) (left held : Option (List ℕ)) (history : List Entry) (given : List ℕ) : Type 0 where
   pub earlier : List ℕ
   pub last : List ℕ
   pub is_last : IsLastPiece given earlier last
-  pub closed : IsCutShort start.run left given last history
+  pub closed : IsCutShort outset.run left given last history
   pub rest : List ℕ
-  pub says : said start.run (packets_of given) 0 history ≡ due start.run earlier ++ rest
-  pub part : TookPart (append_known start.held (due start.run earlier)) held rest
+  pub says : said outset.run (packets_of given) 0 history ≡ due outset.run earlier ++ rest
+  pub part : TookPart (append_known outset.held (due outset.run earlier)) held rest
 
 -- these bytes were read of an input: at most one more than are served
 pub record IsReadOf (before now : Option (List ℕ)) (given : List ℕ) : Type 0 where
@@ -120,23 +120,23 @@ pub record IsReadOf (before now : Option (List ℕ)) (given : List ℕ) : Type 0
   pub read : before ≡ prepend_known given now
 
 -- by how a session ended
-abbrev pub IsEndedBy : Start → Option (List ℕ) → Option (List ℕ) → List Entry → List ℕ → Ending → Type 0
-IsEndedBy start left held history given ending.Served = IsWhole start left held history given ending.Served
-IsEndedBy start left held history given ending.Limit = IsWhole start left held history given ending.Limit
-IsEndedBy start left held history given ending.InputFailed = IsBroken start held history × IsServedTo start held history given
-IsEndedBy start left held history given ending.OutputFailed = IsBroken start held history × IsUnsent start left held history given
+abbrev pub IsEndedBy : Outset → Option (List ℕ) → Option (List ℕ) → List Entry → List ℕ → Ending → Type 0
+IsEndedBy outset left held history given ending.Served = IsWhole outset left held history given ending.Served
+IsEndedBy outset left held history given ending.Limit = IsWhole outset left held history given ending.Limit
+IsEndedBy outset left held history given ending.InputFailed = IsBroken outset held history × IsServedTo outset held history given
+IsEndedBy outset left held history given ending.OutputFailed = IsBroken outset held history × IsUnsent outset left held history given
 
 -- what a session leaves: what the input has left, what the output holds, and the history
-pub record IsEnded (start : Start) (left held : Option (List ℕ)) (history : List Entry) (ends : Ending) : Type 0 where
+pub record IsEnded (outset : Outset) (left held : Option (List ℕ)) (history : List Entry) (ends : Ending) : Type 0 where
   pub given : List ℕ
-  pub taken : IsReadOf start.left left given
-  pub by : IsEndedBy start left held history given ends
+  pub taken : IsReadOf outset.left left given
+  pub by : IsEndedBy outset left held history given ends
 
 -- memory was wanting: a beginning of what the history of the client's bytes says came behind what the output held
-pub record IsWanting (start : Start) (held : Option (List ℕ)) : Type 0 where
+pub record IsWanting (outset : Outset) (held : Option (List ℕ)) : Type 0 where
   pub bytes : List ℕ
-  pub input : IsInput start.left bytes
-  pub sent : IsSentInPart start.held held (said start.run (packets_of bytes) 0 (solo_history start.run bytes))
+  pub input : IsInput outset.left bytes
+  pub sent : IsSentInPart outset.held held (said outset.run (packets_of bytes) 0 (solo_history outset.run bytes))
 
 -- the count of faults that rose is that of the object that failed, and no other did
 abbrev pub IsCause : Ending → SourceSeen → SourceSeen → SinkSeen → SinkSeen → Type 0

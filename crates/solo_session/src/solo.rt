@@ -10,7 +10,7 @@ ghost use Rattle.session_core.specs.Said.{last_words};
 ghost use Rattle.solo_session.specs.Pace.{input_limit, piece_limit};
 ghost use Rattle.solo_session.specs.Reading.{IsOutputCause, IsReading, IsSentBy, IsTurn};
 ghost use Rattle.solo_session.specs.Session.{HasServed, IsServing, conversation};
-ghost use Rattle.solo_session.specs.Solo.{IsCause, IsEnded, IsWanting, Start, start_of};
+ghost use Rattle.solo_session.specs.Solo.{IsCause, IsEnded, IsWanting, Outset, outset_of};
 
 use crate::session::Session;
 use frame_zero::Framer;
@@ -106,10 +106,10 @@ pub fn answer_piece<F: Followed, O: Sink>(
     requires serving { IsServing (F.run session.old.samples) (replay session.old.history) }
     requires few { length piece.now ≤ piece_limit }
     // Where all that was due for what was read before was sent, all that is due is sent, this piece read too.
-    ensures turn { IfOk result (λ turn. (start : Start) (left : Option (List ℕ)) (taken : ℕ) → IsReading start (prepend_known piece.now left) (O.seen out.old).held (conversation F.run session.old) framer.old taken → taken + length piece.now ≤ input_limit
-        → IsTurn start left (O.seen out.new).held (conversation F.run session.new) framer.new (taken + length piece.now) turn) }
-    ensures wanting { OnErr result ((start : Start) (left : Option (List ℕ)) (taken : ℕ) → IsReading start (prepend_known piece.now left) (O.seen out.old).held (conversation F.run session.old) framer.old taken → taken + length piece.now ≤ input_limit
-        → IsWanting start (O.seen out.new).held) }
+    ensures turn { IfOk result (λ turn. (outset : Outset) (left : Option (List ℕ)) (taken : ℕ) → IsReading outset (prepend_known piece.now left) (O.seen out.old).held (conversation F.run session.old) framer.old taken → taken + length piece.now ≤ input_limit
+        → IsTurn outset left (O.seen out.new).held (conversation F.run session.new) framer.new (taken + length piece.now) turn) }
+    ensures wanting { OnErr result ((outset : Outset) (left : Option (List ℕ)) (taken : ℕ) → IsReading outset (prepend_known piece.now left) (O.seen out.old).held (conversation F.run session.old) framer.old taken → taken + length piece.now ≤ input_limit
+        → IsWanting outset (O.seen out.new).held) }
     ensures run { OnOk result (session.new.samples ≡ session.old.samples) }
     ensures cause { IfOk result (λ turn. IsOutputCause turn (O.seen out.old) (O.seen out.new)) }
     ensures later { (O.seen out.old).faults ≤ (O.seen out.new).faults }
@@ -136,10 +136,10 @@ fn finish<F: Followed, O: Sink>(
     out: &mut O,
 ) -> Result<Ending, NoMemory>
     requires { IsServing (F.run session.old.samples) (replay session.old.history) }
-    ensures ended { IfOk result (λ ending. (start : Start) (left : Option (List ℕ)) (rest : List ℕ) (taken : ℕ) → IsReading start left (O.seen out.old).held (conversation F.run session.old) rest taken → IsAtEnd left
-        → IsEnded start left (O.seen out.new).held session.new.history ending) }
-    ensures wanting { OnErr result ((start : Start) (left : Option (List ℕ)) (rest : List ℕ) (taken : ℕ) → IsReading start left (O.seen out.old).held (conversation F.run session.old) rest taken → IsAtEnd left
-        → IsWanting start (O.seen out.new).held) }
+    ensures ended { IfOk result (λ ending. (outset : Outset) (left : Option (List ℕ)) (rest : List ℕ) (taken : ℕ) → IsReading outset left (O.seen out.old).held (conversation F.run session.old) rest taken → IsAtEnd left
+        → IsEnded outset left (O.seen out.new).held session.new.history ending) }
+    ensures wanting { OnErr result ((outset : Outset) (left : Option (List ℕ)) (rest : List ℕ) (taken : ℕ) → IsReading outset left (O.seen out.old).held (conversation F.run session.old) rest taken → IsAtEnd left
+        → IsWanting outset (O.seen out.new).held) }
     ensures run { OnOk result (session.new.samples ≡ session.old.samples) }
     ensures cause { IfOk result (λ ending. IsOutputCause (Some ending) (O.seen out.old) (O.seen out.new)) }
     ensures later { (O.seen out.old).faults ≤ (O.seen out.new).faults }
@@ -168,8 +168,8 @@ pub fn serve<F: Followed, I: Source, O: Sink>(
     out: &mut O,
 ) -> Result<Ending, NoMemory>
     requires { HasServed [] (conversation F.run session.old) [] }
-    ensures ended { IfOk result (λ ending. IsEnded (start_of (F.run session.old.samples) (I.seen input.old) (O.seen out.old)) (I.seen input.new).left (O.seen out.new).held session.new.history ending) }
-    ensures wanting { OnErr result (IsWanting (start_of (F.run session.old.samples) (I.seen input.old) (O.seen out.old)) (O.seen out.new).held) }
+    ensures ended { IfOk result (λ ending. IsEnded (outset_of (F.run session.old.samples) (I.seen input.old) (O.seen out.old)) (I.seen input.new).left (O.seen out.new).held session.new.history ending) }
+    ensures wanting { OnErr result (IsWanting (outset_of (F.run session.old.samples) (I.seen input.old) (O.seen out.old)) (O.seen out.new).held) }
     ensures run { OnOk result (session.new.samples ≡ session.old.samples) }
     ensures cause { IfOk result (λ ending. IsCause ending (I.seen input.old) (I.seen input.new) (O.seen out.old) (O.seen out.new)) }
     ensures later_input { (I.seen input.old).faults ≤ (I.seen input.new).faults }

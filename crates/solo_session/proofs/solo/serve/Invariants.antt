@@ -3,13 +3,13 @@ use Rattle.std.specs.Prelude.{vec_len}
 use Rattle.hall_core.specs.Replay.{replay}
 use Rattle.solo_session.specs.Pace.{input_limit}
 use Rattle.solo_session.specs.Reading.{IsReading}
-use Rattle.solo_session.specs.Solo.{start_of}
+use Rattle.solo_session.specs.Solo.{outset_of}
 use Rattle.solo_session.specs.Session.{IsServing, conversation}
 use Rattle.solo_session.proofs.solo.serve.Given as goal
 
 abbrev pub invariant-loop-session : goal.invariant-loop-session
 invariant-loop-session g l = record {
-  reading : IsReading (start_of (g.F.Followed.run l.fn.session.samples) (g.I.Source.seen l.fn.input) (g.O.Sink.seen l.fn.out)) (g.I.Source.seen l.input).left (g.O.Sink.seen l.out).held (conversation g.F.Followed.run l.session) l.framer l.taken;
+  reading : IsReading (outset_of (g.F.Followed.run l.fn.session.samples) (g.I.Source.seen l.fn.input) (g.O.Sink.seen l.fn.out)) (g.I.Source.seen l.input).left (g.O.Sink.seen l.out).held (conversation g.F.Followed.run l.session) l.framer l.taken;
   serving : IsServing (g.F.Followed.run l.session.samples) (replay l.session.history);
   run : l.session.samples ≡ l.fn.session.samples;
   within : l.taken ≤ input_limit;
