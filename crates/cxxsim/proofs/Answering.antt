@@ -1,16 +1,16 @@
 -- What a call leaves is what its status says.
-use Rattle.std.proofs.Common.{◌≡◌, ℕ, List, [], ◌∷◌, Bool, true, false, Option, Some, None, refl, sym, ◌∙◌, ap, subst, arith, inl, inr, ◌<◌, ◌≤◌, length}
-use Rattle.std.specs.Prelude.{IsSome, Result, Ok, Err, option_and_then}
+use Rattle.std.proofs.Common.{◌≡◌, ℕ, List, Bool, true, false, Option, Some, None, refl, sym, ◌∙◌, ap, subst, arith, inl, inr, ◌≤◌, length}
+use Rattle.std.specs.Prelude.{IsSome, Result, Ok, Err}
 use Rattle.circuit.specs.declared.netlist.Circuit.{Circuit}
 use Rattle.flat_stimulus.specs.Block.{Block}
 use Rattle.flat_stimulus.specs.Text.{block_of}
 use Rattle.outside.specs.Shelf.{File, Holds, IsLonger, IsOf, IsKnown, Missing, Unknown}
 use Rattle.solo_session.specs.declared.solo.Ending.{Ending}
 use Rattle.solo_session.specs.declared.solo.Ending.TheVariants as ending
-use Rattle.cxxsim.specs.Answers.{IsAnswered, IsClosed, IsDoneBy, IsFaultOf, IsIdle, IsLimitedBy, IsMisused, IsRefused, IsKnownOf, IsUnreadBy, IsUntraced, IsUnwrittenBy, IsWantingBy, HasEnded, Task, task}
+use Rattle.cxxsim.specs.Answers.{IsAnswered, IsClosed, IsDoneBy, IsFaultOf, IsIdle, IsLimitedBy, IsMisused, IsRefused, IsKnownOf, IsUnreadBy, IsUnwrittenBy, IsWantingBy, Task, task}
 use Rattle.cxxsim.specs.Outcome.{ServedAs, TracedAs, WentBy, ended_status, if_logged, served_status, status_of, traced_status}
 use Rattle.cxxsim.specs.Outside.{Outside}
-use Rattle.cxxsim.specs.Trace.{HasLongStimulus, HasNoDesign, HasNoStimulus, IsFault, IsRun, design_circuit}
+use Rattle.cxxsim.specs.Trace.{IsRun, design_circuit}
 use Rattle.cxxsim.specs.declared.command.Command.{Command}
 use Rattle.cxxsim.specs.declared.command.Mode.{Mode}
 use Rattle.cxxsim.specs.declared.command.Mode.TheVariants as mode

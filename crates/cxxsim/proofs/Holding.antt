@@ -1,9 +1,9 @@
 -- What a session leaves whose client was served, or nobody.
-use Rattle.std.proofs.Common.{◌≡◌, ℕ, ◌≤◌, ◌<◌, List, [], ◌∷◌, ◌++◌, Bool, true, false, Option, refl, sym, ◌∙◌, ap, subst, arith, inl, inr}
+use Rattle.std.proofs.Common.{◌≡◌, ℕ, ◌≤◌, ◌<◌, List, [], ◌∷◌, Option, refl, sym, ap, subst, arith, inl, inr}
 use Rattle.circuit.specs.Rounds.{run_length}
 use Rattle.flat_run.specs.Run.{Sampled, run_of}
 use Rattle.hall_core.specs.Facts.{facts_of}
-use Rattle.hall_core.specs.Laws.{Taken, none, one_more}
+use Rattle.hall_core.specs.Laws.{none, one_more}
 use Rattle.hall_core.specs.Legal.{Legal, RunFacts}
 use Rattle.hall_core.specs.declared.entry.Entry.{Entry}
 use Rattle.hall_core.specs.declared.entry.Entry.TheVariants as entry

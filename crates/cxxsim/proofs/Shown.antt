@@ -1,10 +1,10 @@
 -- What a sample shows is what its nets hold.
-use Rattle.std.proofs.Common.{◌≡◌, ℕ, zero, suc, List, [], ◌∷◌, ◌++◌, ◌-◌, ◌<◌, Option, Some, None, false, cond, ltb, refl, sym, ◌∙◌, ap, subst, arith, inl, inr, append_assoc}
+use Rattle.std.proofs.Common.{◌≡◌, ℕ, zero, suc, List, [], ◌∷◌, ◌++◌, ◌-◌, ◌<◌, Option, Some, false, cond, ltb, refl, sym, ◌∙◌, ap, subst, arith, inl, inr, append_assoc}
 use Rattle.std.proofs.lemmas.Bool.{cases_Bool, cond-false, ltb-true}
 use Rattle.std.specs.Prelude.{slice_get}
 use Rattle.std.specs.List.{flat_map}
 use Rattle.circuit.specs.Rounds.{Run, Standing, standing_at}
-use Rattle.circuit.specs.Shown.{item_number, shown, shown_in, slot_number, slots_of}
+use Rattle.circuit.specs.Shown.{item_number, shown_in, slot_number, slots_of}
 use Rattle.circuit.specs.declared.netlist.Circuit.{Circuit}
 use Rattle.circuit.specs.declared.item.Item.{Item}
 use Rattle.circuit.specs.declared.item.ItemKind.{ItemKind}

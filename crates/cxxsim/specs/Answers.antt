@@ -1,5 +1,5 @@
 -- What a call of the program leaves, by the status that it answers.
-use Rattle.std.specs.Prelude.{◌≡◌, ◌⊎◌, ⊤, ℕ, List, [], ◌∷◌, Bool, true, false, Option, Some, None, nat_eq, IsTrue}
+use Rattle.std.specs.Prelude.{◌≡◌, ◌⊎◌, ℕ, [], ◌∷◌, Bool, true, false, Option, Some, None, nat_eq, IsTrue}
 use Rattle.std.specs.List.{list_any}
 use Rattle.circuit.specs.declared.netlist.Circuit.{Circuit}
 use Rattle.flat_stimulus.specs.Block.{Block}

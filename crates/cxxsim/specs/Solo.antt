@@ -1,5 +1,5 @@
 -- What a session with one client leaves.
-use Rattle.std.specs.Prelude.{◌≡◌, ◌⊎◌, ℕ, ◌≤◌, List, [], ◌∷◌, Bool, Option}
+use Rattle.std.specs.Prelude.{◌≡◌, ◌⊎◌, ℕ, ◌≤◌, List, [], ◌∷◌}
 use Rattle.circuit.specs.Rounds.{run_length}
 use Rattle.circuit.specs.declared.netlist.Circuit.{Circuit}
 use Rattle.flat_run.specs.Run.{Sampled, run_of}

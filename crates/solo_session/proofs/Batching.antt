@@ -2,19 +2,19 @@
 use Rattle.std.proofs.Common.{◌≡◌, ℕ, zero, suc, ◌+◌, ◌-◌, ◌<◌, ◌≤◌, List, [], Bool, true, false, not, refl, sym, ◌∙◌, ap, subst, arith, inl, inr, min, append-nil}
 use Rattle.std.proofs.lemmas.Bool.{cases_Bool, cases_lt, cond-true, cond-false, false≢true}
 use Rattle.std.proofs.lemmas.Bool.Decides.{nat_tests}
-use Rattle.std.specs.Prelude.{nat_le, nat_lt, ◌==◌, ◌&&◌, ◌||◌}
+use Rattle.std.specs.Prelude.{nat_le, ◌&&◌, ◌||◌}
 use Rattle.sim_base.specs.declared.kinds.Kinds.{Kinds}
 use Rattle.std.specs.List.{list_any}
 use Rattle.circuit.specs.Rounds.{Run, run_length}
 use Rattle.circuit.specs.Shown.{fires_at, hits, is_among}
 use Rattle.hall_core.specs.Facts.{facts_of}
 use Rattle.hall_core.specs.Legal.{RunFacts, allowed}
-use Rattle.hall_core.specs.Replay.{State, after}
+use Rattle.hall_core.specs.Replay.{State}
 use Rattle.hall_core.specs.declared.entry.Entry.TheVariants as entry
 use Rattle.hall_core.specs.declared.entry.Goal.{Goal}
 use Rattle.hall_core.specs.declared.entry.Goal.TheVariants as goal
 use Rattle.solo_session.specs.Pace.{batch_size, most_next, record_entries, stop_entries}
-use Rattle.hall_core.specs.Batches.{greatest, hits_goal, may_record, may_stop, record_of, some_hits}
+use Rattle.hall_core.specs.Batches.{greatest, may_record, may_stop, record_of, some_hits}
 use Rattle.session_core.specs.Replies.{event, events}
 use Rattle.solo_session.specs.Session.{IsAhead, IsRunning, IsServing}
 

@@ -1,12 +1,12 @@
 -- What a session leaves as it ends, from what its client was served and told.
-use Rattle.std.proofs.Common.{◌≡◌, ℕ, List, [], ◌∷◌, ◌++◌, length, take, drop, refl, sym, ap, subst, arith, ◌∙◌, append-nil, true, Option, Some, None, inl, inr}
-use Rattle.std.specs.Io.KnownBytes.{append_known, prepend_known}
-use Rattle.std.proofs.lemmas.List.{append_assoc, take-append-drop}
+use Rattle.std.proofs.Common.{◌≡◌, ℕ, List, [], ◌∷◌, ◌++◌, length, refl, sym, ap, subst, arith, ◌∙◌, append-nil, true, Option, inl, inr}
+use Rattle.std.specs.Io.KnownBytes.{append_known}
+use Rattle.std.proofs.lemmas.List.{append_assoc}
 use Rattle.hall_core.specs.declared.entry.Entry.{Entry}
 use Rattle.hall_core.specs.declared.entry.Entry.TheVariants as entry
 use Rattle.hall_core.specs.declared.entry.Why.{Why}
 use Rattle.hall_core.specs.declared.entry.Why.TheVariants as why
-use Rattle.outside.specs.Sink.{TookPart, IsSentInPart}
+use Rattle.outside.specs.Sink.{IsSentInPart}
 use Rattle.solo_session.specs.Pace.{packets_of, solo_history}
 use Rattle.session_core.specs.Said.{Agrees, last_words, packets_in, said}
 use Rattle.solo_session.specs.Session.{HasSaid, Conversation}

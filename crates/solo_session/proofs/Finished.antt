@@ -1,19 +1,19 @@
 -- As many batches as there are samples leave no goal.
-use Rattle.std.proofs.Common.{◌≡◌, ℕ, zero, suc, ◌+◌, ◌-◌, ◌<◌, ◌≤◌, Bool, true, false, not, List, [], ◌∷◌, ◌++◌, refl, sym, ap, subst, arith, ◌∙◌, append-nil, inl, inr, if◌then◌else◌}
-use Rattle.std.specs.Prelude.{nat_le, nat_lt, ◌==◌, ◌&&◌, ◌⊎◌}
+use Rattle.std.proofs.Common.{◌≡◌, ℕ, zero, suc, ◌+◌, ◌<◌, ◌≤◌, Bool, true, false, List, [], ◌∷◌, ◌++◌, refl, sym, ap, subst, arith, ◌∙◌, append-nil, inl, inr, if◌then◌else◌}
+use Rattle.std.specs.Prelude.{nat_le, ◌&&◌, ◌⊎◌}
 use Rattle.std.proofs.lemmas.Bool.{cases_Bool, cases_lt, cond-true, cond-false, false≢true}
 use Rattle.std.proofs.lemmas.Bool.Decides.{nat_tests}
 use Rattle.sim_base.specs.declared.kinds.Kinds.{Kinds}
 use Rattle.circuit.specs.Rounds.{Run, run_length}
 use Rattle.hall_core.specs.Facts.{facts_of}
 use Rattle.hall_core.specs.Legal.{RunFacts, allowed}
-use Rattle.hall_core.specs.Replay.{State, after, reaches, replay}
+use Rattle.hall_core.specs.Replay.{State, reaches, replay}
 use Rattle.hall_core.specs.declared.entry.Entry.{Entry}
 use Rattle.hall_core.specs.declared.entry.Entry.TheVariants as entry
 use Rattle.hall_core.specs.declared.entry.Goal.{Goal}
 use Rattle.hall_core.specs.declared.entry.Goal.TheVariants as goal
 use Rattle.hall_core.proofs.Progress.{replay-push}
-use Rattle.solo_session.specs.Pace.{batch, batch_size, batches, most_next, opening, record_entries, recorded, stop_entries, stopped, with_packets}
+use Rattle.solo_session.specs.Pace.{batch, batch_size, batches, most_next, opening, record_entries, recorded, with_packets}
 use Rattle.hall_core.specs.Batches.{greatest, may_record, may_stop, record_of, some_hits}
 use Rattle.solo_session.specs.Session.{IsAhead, IsServing}
 use Rattle.solo_session.proofs.Paced.{serving_batch, serving_packets}

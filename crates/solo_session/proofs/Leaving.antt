@@ -1,5 +1,5 @@
 -- What was read and sent when a session ends, or when memory is wanting.
-use Rattle.std.proofs.Common.{◌≡◌, ℕ, ◌+◌, ◌≤◌, List, [], ◌∷◌, ◌++◌, length, map, refl, sym, ap, subst, arith, ◌∙◌, append-nil, Option, Some, true, false, inl, inr, length-append, Ok, Err}
+use Rattle.std.proofs.Common.{◌≡◌, ℕ, ◌≤◌, List, [], ◌∷◌, ◌++◌, length, map, sym, ap, subst, arith, ◌∙◌, append-nil, Option, Some, true, false, inl, inr, length-append, Ok, Err}
 use Rattle.std.specs.Prelude.{OnErr}
 use Rattle.std.specs.declared.result.Result.{Result}
 use Rattle.std.specs.Io.KnownBytes.{append_known, prepend_known}
@@ -13,7 +13,7 @@ use Rattle.solo_session.specs.Pace.{course, input_limit, opening, packets_of, so
 use Rattle.solo_session.specs.Reading.{HasRead, IsOutputCause, IsReading}
 use Rattle.session_core.specs.Said.{said, said_behind}
 use Rattle.solo_session.specs.Session.{Conversation}
-use Rattle.solo_session.specs.Solo.{IsBroken, IsCause, IsCutOff, IsEnded, IsEndedBy, IsReadOf, IsServedTo, IsWanting, IsWhole, Outset, due}
+use Rattle.solo_session.specs.Solo.{IsBroken, IsCause, IsEnded, IsEndedBy, IsReadOf, IsServedTo, IsWanting, IsWhole, Outset, due}
 use Rattle.outside.specs.Faults.{Rose}
 use Rattle.outside.specs.Sink.{IsSentInPart, SinkSeen}
 use Rattle.outside.specs.Source.{SourceSeen}

@@ -1,20 +1,16 @@
 -- The history of the pace is legal, and at its end no goal is left.
-use Rattle.std.proofs.Common.{◌≡◌, ℕ, zero, suc, ◌+◌, ◌-◌, ◌<◌, ◌≤◌, Bool, true, false, not, List, [], ◌∷◌, ◌++◌, length, refl, sym, ap, subst, arith, ◌∙◌, append-nil, inl, inr, Some, if◌then◌else◌}
-use Rattle.std.specs.Prelude.{nat_le, nat_lt, ◌==◌, ◌&&◌, ◌⊎◌}
-use Rattle.std.proofs.lemmas.Bool.{and_parts, cases_Bool, cond-true, cond-false, false≢true}
+use Rattle.std.proofs.Common.{◌≡◌, ℕ, zero, suc, ◌+◌, ◌-◌, ◌≤◌, Bool, true, false, not, List, [], ◌∷◌, ◌++◌, length, refl, sym, ap, subst, arith, ◌∙◌, append-nil, inl, inr, if◌then◌else◌}
+use Rattle.std.specs.Prelude.{nat_le, ◌==◌, ◌&&◌}
+use Rattle.std.proofs.lemmas.Bool.{and_parts, cases_Bool, cond-true, cond-false}
 use Rattle.std.proofs.lemmas.Bool.Decides.{nat_tests}
 use Rattle.std.proofs.lemmas.List.{append_assoc, length_push}
-use Rattle.sim_base.specs.declared.kinds.Kinds.{Kinds}
 use Rattle.circuit.specs.Rounds.{Run, run_length}
-use Rattle.frame_zero.specs.Packets.{packets, has_too_long}
 use Rattle.hall_core.specs.Facts.{facts_of}
 use Rattle.hall_core.specs.Laws.{Taken, none, one_more}
-use Rattle.hall_core.specs.Legal.{Legal, RunFacts, allowed}
-use Rattle.hall_core.specs.Replay.{State, after, is_goal, replay}
+use Rattle.hall_core.specs.Legal.{Legal, allowed}
+use Rattle.hall_core.specs.Replay.{State, after, replay}
 use Rattle.hall_core.specs.declared.entry.Entry.{Entry}
 use Rattle.hall_core.specs.declared.entry.Entry.TheVariants as entry
-use Rattle.hall_core.specs.declared.entry.Goal.{Goal}
-use Rattle.hall_core.specs.declared.entry.Goal.TheVariants as goal
 use Rattle.hall_core.specs.declared.entry.Why.{Why}
 use Rattle.hall_core.specs.declared.entry.Why.TheVariants as why
 use Rattle.hall_core.proofs.Histories.{legal_taken}
@@ -23,13 +19,13 @@ use Rattle.proto_packets.specs.Asked.{asked}
 use Rattle.session_core.specs.Refusals.{is_greeted}
 use Rattle.session_core.specs.Replies.{act_of}
 use Rattle.session_core.specs.Said.{Agrees, packets_in}
-use Rattle.solo_session.specs.Pace.{batch, batch_size, batches, closing, input_limit, most_next, opening, packets_of, record_entries, recorded, solo_history, stop_entries, stopped, with_packet, with_packets}
+use Rattle.solo_session.specs.Pace.{batch, batch_size, batches, closing, most_next, opening, packets_of, record_entries, recorded, solo_history, stop_entries, stopped, with_packet, with_packets}
 use Rattle.hall_core.specs.Batches.{hits_goal, may_record, may_stop, record_of, some_hits}
 use Rattle.solo_session.specs.Session.{IsServing, Conversation}
-use Rattle.session_core.proofs.Agreeing.{agrees_batch, agrees_more, agrees_other, agrees_packet, no_packet_there}
-use Rattle.solo_session.proofs.Going.{batches_push, may_in, opened_agrees, opened_taken}
+use Rattle.session_core.proofs.Agreeing.{agrees_batch, agrees_other, agrees_packet, no_packet_there}
+use Rattle.solo_session.proofs.Going.{may_in, opened_agrees, opened_taken}
 use Rattle.session_core.proofs.Sayings.{packets_in_batch, packets_in_other, packets_in_push_packet}
-use Rattle.solo_session.proofs.Serving.{packet_allowed, packet_served, record_served, serving_within}
+use Rattle.solo_session.proofs.Serving.{packet_allowed, packet_served, record_served}
 use Rattle.solo_session.proofs.Taking.{all_recording_record, all_recording_stop, closed_legal, greatest_passes, le_of, taken_packet, taken_recorded, taken_stopped}
 
 -- ---- the client goes on to be served

@@ -1,14 +1,13 @@
 -- What holds of a session as its client's bytes are read goes on to hold, and says how the session ends.
-use Rattle.std.proofs.Common.{◌≡◌, ℕ, zero, suc, ◌+◌, ◌-◌, ◌<◌, ◌≤◌, Bool, true, false, List, [], ◌∷◌, ◌++◌, length, map, take, refl, sym, ap, subst, arith, ◌∙◌, append-nil, Option, Some, None, inl, inr, length-append}
-use Rattle.std.specs.Prelude.{nat_lt, slice_get, if◌then◌else◌}
+use Rattle.std.proofs.Common.{◌≡◌, ℕ, zero, suc, ◌+◌, ◌-◌, ◌<◌, ◌≤◌, Bool, true, false, List, [], ◌∷◌, ◌++◌, length, map, take, refl, sym, ap, subst, arith, ◌∙◌, append-nil, Option, inl, inr, length-append}
+use Rattle.std.specs.Prelude.{nat_lt, if◌then◌else◌}
 use Rattle.std.proofs.lemmas.Bool.{cond-true, cond-false}
 use Rattle.std.specs.Io.KnownBytes.{IsAtEnd, append_known, prepend_known}
 use Rattle.std.proofs.Math.Seq.{take-append-add, take-append_seam}
 use Rattle.std.proofs.lemmas.List.{append_assoc, length-take-le}
 use Rattle.std.proofs.lemmas.Bool.Decides.{nat_tests}
 use Rattle.circuit.specs.Rounds.{run_length, Run}
-use Rattle.frame_zero.specs.Packets.{Begins, Packet, packets, packets_from, parts_of, too_long, whole, has_too_long, wholes}
-use Rattle.frame_zero.proofs.PacketLaws.{packets-append}
+use Rattle.frame_zero.specs.Packets.{Packet, packets, packets_from, parts_of, too_long, whole, has_too_long, wholes}
 use Rattle.hall_core.specs.Facts.{facts_of}
 use Rattle.hall_core.specs.Replay.{replay}
 use Rattle.hall_core.specs.declared.entry.Entry.TheVariants as entry
@@ -25,7 +24,7 @@ use Rattle.outside.proofs.SourceLemmas.{bytes_left, is_input, prepend_two, no_by
 use Rattle.solo_session.proofs.Endings.{cut_off, whole as whole_of, whole_in_part}
 use Rattle.outside.proofs.SinkLemmas.{sent_all, sent_more, sent_part, nothing_told}
 use Rattle.solo_session.proofs.Extending.{Extends, closing_ended, closing_limit, closing_long, ending_ended, ending_limit, ending_long, extends-closing, extends-more_packets, extends-trans, solo_is}
-use Rattle.frame_zero.proofs.Streams.{has_too_long_done, wholes_done, ends_too_long, stays_too_long}
+use Rattle.frame_zero.proofs.Streams.{has_too_long_done, wholes_done, stays_too_long}
 
 -- ---- the outset, and a piece more
 

@@ -1,10 +1,10 @@
 -- A session from call to call.
-use Rattle.std.proofs.Common.{◌≡◌, ℕ, ◌+◌, Bool, true, false, if◌then◌else◌, length, Option, Some, None, List, [], ◌∷◌, ◌++◌, map, refl, sym, ap, subst, ◌∙◌, append-nil}
-use Rattle.std.specs.Prelude.{nat_lt, slice_get, ◌||◌}
+use Rattle.std.proofs.Common.{◌≡◌, ℕ, ◌+◌, true, List, [], ◌∷◌, ◌++◌, map, refl, sym, ap, subst, ◌∙◌, append-nil}
+use Rattle.std.specs.Prelude.{◌||◌}
 use Rattle.std.specs.List.{list_all}
 use Rattle.std.proofs.lemmas.List.{append_assoc}
 use Rattle.circuit.specs.Rounds.{Run}
-use Rattle.frame_zero.specs.Packets.{Packet, limit, packets, packets_from, parts_of, too_long, whole}
+use Rattle.frame_zero.specs.Packets.{Packet, packets, whole}
 use Rattle.hall_core.specs.Facts.{facts_of}
 use Rattle.hall_core.specs.Laws.{Taken, is_recording}
 use Rattle.hall_core.specs.Replay.{after, replay}

@@ -1,20 +1,18 @@
 -- What may come while the client is served, and what stands behind it.
-use Rattle.std.proofs.Common.{◌≡◌, ◌≢◌, ℕ, zero, suc, ◌+◌, ◌-◌, ◌<◌, ◌≤◌, List, [], ◌∷◌, ◌++◌, Bool, true, false, not, refl, sym, ◌∙◌, ap, subst, arith, inl, inr, Option, Some, None, Ok, Err, if◌then◌else◌}
-use Rattle.std.specs.Prelude.{nat_le, nat_lt, slice_get, ◌==◌, ◌&&◌, ◌||◌}
+use Rattle.std.proofs.Common.{◌≡◌, ◌≢◌, ℕ, ◌+◌, ◌-◌, ◌<◌, ◌≤◌, [], ◌∷◌, Bool, true, false, not, refl, sym, ◌∙◌, ap, arith, inl, inr, if◌then◌else◌}
+use Rattle.std.specs.Prelude.{nat_le, slice_get, ◌==◌, ◌&&◌}
 use Rattle.std.proofs.lemmas.Bool.{cases_Bool, cases_lt, cond-true, cond-false, false≢true}
 use Rattle.std.proofs.lemmas.Bool.Decides.{nat_tests}
 use Rattle.circuit.specs.Rounds.{Run, run_length}
 use Rattle.circuit.proofs.Length.{length_within}
 use Rattle.sim_base.specs.declared.kinds.Kinds.{Kinds}
-use Rattle.hall_core.specs.Legal.{allowed, is_open, is_true, may_act, is_over, may_follow, may_begin, lets}
+use Rattle.hall_core.specs.Legal.{allowed, is_open, is_true, may_act, is_over, lets}
 use Rattle.hall_core.specs.Replay.{State, after, is_goal, runs_on}
 use Rattle.hall_core.specs.declared.entry.Act.{Act}
 use Rattle.hall_core.specs.declared.entry.Act.TheVariants as act
-use Rattle.hall_core.specs.declared.entry.Entry.{Entry}
 use Rattle.hall_core.specs.declared.entry.Entry.TheVariants as entry
 use Rattle.hall_core.specs.declared.entry.Goal.{Goal}
 use Rattle.hall_core.specs.declared.entry.Goal.TheVariants as goal
-use Rattle.proto_replies.specs.declared.answer.RunState.{RunState}
 use Rattle.proto_replies.specs.declared.answer.RunState.TheVariants as state
 use Rattle.session_core.specs.Replies.{is_finished, is_running, state_of}
 use Rattle.hall_core.specs.Moments.{moment_of}

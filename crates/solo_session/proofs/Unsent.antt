@@ -1,9 +1,9 @@
 -- What a write leaves that failed.
-use Rattle.std.proofs.Common.{◌≡◌, ℕ, ◌+◌, ◌≤◌, List, [], ◌∷◌, ◌++◌, length, refl, sym, ap, subst, arith, ◌∙◌, append-nil, Option, inr, true, false}
+use Rattle.std.proofs.Common.{◌≡◌, ℕ, ◌≤◌, List, [], ◌∷◌, ◌++◌, length, refl, sym, ap, subst, arith, ◌∙◌, append-nil, Option}
 use Rattle.std.specs.Io.KnownBytes.{IsAtEnd, append_known, prepend_known}
 use Rattle.std.proofs.lemmas.List.{append_assoc}
 use Rattle.circuit.specs.Rounds.{Run}
-use Rattle.frame_zero.specs.Packets.{has_too_long, packets, too_long, wholes}
+use Rattle.frame_zero.specs.Packets.{packets, too_long, wholes}
 use Rattle.hall_core.specs.Facts.{facts_of}
 use Rattle.hall_core.specs.declared.entry.Entry.{Entry}
 use Rattle.hall_core.specs.declared.entry.Entry.TheVariants as entry

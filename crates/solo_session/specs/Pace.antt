@@ -1,17 +1,14 @@
 -- The history of a run with one client: the pace at which samples are recorded between its packets.
 use Rattle.hall_core.specs.declared.entry.Entry.TheVariants.{Record}
-use Rattle.std.specs.Prelude.{ℕ, zero, suc, ◌+◌, ◌-◌, ◌==◌, List, [], ◌∷◌, ◌++◌, length, take, map, Bool, true, false, not, ◌&&◌, ◌||◌, nat_le, nat_lt, if◌then◌else◌}
-use Rattle.sim_base.specs.declared.kinds.Kinds.{Kinds}
+use Rattle.std.specs.Prelude.{ℕ, zero, suc, ◌==◌, List, [], ◌∷◌, ◌++◌, length, take, false, nat_lt, if◌then◌else◌}
 use Rattle.circuit.specs.Rounds.{Run, run_length}
-use Rattle.frame_zero.specs.Packets.{Packet, packets, whole, too_long, wholes, has_too_long}
+use Rattle.frame_zero.specs.Packets.{packets, wholes, has_too_long}
 use Rattle.hall_core.specs.Batches.{may_stop, most_recorded, record_of}
 use Rattle.hall_core.specs.Facts.{facts_of}
-use Rattle.hall_core.specs.Legal.{RunFacts, allowed}
-use Rattle.hall_core.specs.Replay.{State, after, replay}
+use Rattle.hall_core.specs.Legal.{RunFacts}
+use Rattle.hall_core.specs.Replay.{State, replay}
 use Rattle.hall_core.specs.declared.entry.Entry.{Entry}
 use Rattle.hall_core.specs.declared.entry.Entry.TheVariants as entry
-use Rattle.hall_core.specs.declared.entry.Goal.{Goal}
-use Rattle.hall_core.specs.declared.entry.Goal.TheVariants as goal
 use Rattle.hall_core.specs.declared.entry.Why.TheVariants as why
 use Rattle.session_core.specs.Replies.{act_of}
 

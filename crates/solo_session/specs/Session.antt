@@ -4,7 +4,7 @@ use Rattle.circuit.specs.Rounds.{Run, run_length}
 use Rattle.frame_zero.specs.Packets.{packets, too_long, whole}
 use Rattle.hall_core.specs.Facts.{facts_of}
 use Rattle.hall_core.specs.Laws.{Taken}
-use Rattle.hall_core.specs.Replay.{State, after, replay}
+use Rattle.hall_core.specs.Replay.{State, replay}
 use Rattle.hall_core.specs.declared.entry.Act.{Act}
 use Rattle.hall_core.specs.declared.entry.Act.TheVariants as act
 use Rattle.hall_core.specs.declared.entry.Entry.{Entry}
@@ -12,7 +12,7 @@ use Rattle.hall_core.specs.declared.entry.Entry.TheVariants as entry
 use Rattle.hall_core.specs.declared.entry.Goal.{Goal}
 use Rattle.hall_core.specs.declared.entry.Goal.TheVariants as goal
 use Rattle.session_core.specs.Refusals.{Asking, is_greeted}
-use Rattle.session_core.specs.Replies.{act_in, event}
+use Rattle.session_core.specs.Replies.{act_in}
 use Rattle.session_core.specs.Said.{Agrees, packets_in, said}
 use Rattle.solo_session.specs.Pace.{opening, with_packets}
 

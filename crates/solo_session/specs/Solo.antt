@@ -1,5 +1,5 @@
 -- What a session with one client did, by the bytes that the client sent.
-use Rattle.std.specs.Prelude.{◌≡◌, ◌⊎◌, ⊤, ℕ, ◌+◌, ◌≤◌, List, [], ◌∷◌, ◌++◌, length, take, Bool, true, false, not, ◌&&◌, nat_lt, Option, Some, None, if◌then◌else◌}
+use Rattle.std.specs.Prelude.{◌≡◌, ◌⊎◌, ⊤, ℕ, ◌+◌, ◌≤◌, List, [], ◌∷◌, ◌++◌, length, take, Bool, true, false, not, ◌&&◌, nat_lt, Option, if◌then◌else◌}
 use Rattle.std.specs.Io.KnownBytes.{IsAtEnd, append_known, prepend_known}
 use Rattle.circuit.specs.Rounds.{Run}
 use Rattle.frame_zero.specs.Packets.{packets, has_too_long}
@@ -11,7 +11,7 @@ use Rattle.hall_core.specs.declared.entry.Why.TheVariants as why
 use Rattle.outside.specs.Faults.{Rose}
 use Rattle.outside.specs.Sink.{IsSentInPart, SinkSeen, TookPart}
 use Rattle.outside.specs.Source.{IsInput, SourceSeen}
-use Rattle.solo_session.specs.Pace.{batches, course, input_limit, opening, packets_of, piece_limit, solo_history, with_packets}
+use Rattle.solo_session.specs.Pace.{batches, course, input_limit, packets_of, piece_limit, solo_history}
 use Rattle.session_core.specs.Said.{Agrees, said}
 use Rattle.solo_session.specs.declared.solo.Ending.{Ending}
 use Rattle.solo_session.specs.declared.solo.Ending.TheVariants as ending

@@ -1,7 +1,7 @@
 use Rattle.std.proofs.Common.{◌∙◌, Ok, ap, refl}
 use Rattle.flat_run.specs.Run.{Sampled}
 use Rattle.solo_session.specs.Session.{Over}
-use Rattle.cxxsim.proofs.Holding.{served_is_held, unserved_is_held}
+use Rattle.cxxsim.proofs.Holding.{unserved_is_held}
 use Rattle.cxxsim.proofs.session.hold.Goals as goal
 
 pub serve-requires : goal.serve-requires

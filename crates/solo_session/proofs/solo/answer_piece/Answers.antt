@@ -1,11 +1,9 @@
-use Rattle.std.proofs.Common.{◌≡◌, ◌+◌, ◌++◌, ◌∷◌, [], List, ℕ, Option, length, ap, sym, subst, ◌∙◌}
+use Rattle.std.proofs.Common.{◌+◌, ◌++◌, ◌∷◌, [], List, ℕ, Option, length, ap, sym, subst, ◌∙◌}
 use Rattle.std.specs.Io.KnownBytes.{append_known, prepend_known}
 use Rattle.hall_core.specs.declared.entry.Entry.TheVariants as entry
 use Rattle.hall_core.specs.declared.entry.Why.TheVariants as why
 use Rattle.outside.specs.Sink.{TookPart}
-use Rattle.session_core.specs.Said.{last_words}
-use Rattle.solo_session.specs.Reading.{HasRead, IsSentBy}
-use Rattle.solo_session.specs.Session.{Conversation, Over, conversation}
+use Rattle.solo_session.specs.Session.{Over, conversation}
 use Rattle.solo_session.specs.Solo.{IsEnded, IsWanting}
 use Rattle.outside.proofs.SinkLemmas.{sent_more, sent_part}
 use Rattle.solo_session.specs.declared.solo.Ending.{Ending}

@@ -1,4 +1,4 @@
-use Rattle.std.proofs.Common.{◌≡◌, ap, ◌++◌, ◌+◌, ℕ, List, refl}
+use Rattle.std.proofs.Common.{ap, refl}
 use Rattle.solo_session.specs.Pace.{batches}
 use Rattle.solo_session.specs.Session.{conversation}
 use Rattle.solo_session.proofs.Rounds.{batches_go, recorded_said, stopped_said}

@@ -1,4 +1,4 @@
-use Rattle.std.proofs.Common.{◌≡◌, ◌++◌, ap, sym, ◌∙◌, append-nil}
+use Rattle.std.proofs.Common.{◌++◌, ap, sym, ◌∙◌, append-nil}
 use Rattle.hall_core.specs.Facts.{facts_of}
 use Rattle.hall_core.specs.Replay.{replay}
 use Rattle.hall_core.specs.declared.entry.Entry.TheVariants as entry
