@@ -1,0 +1,21 @@
+//! Laws of the table.
+ghost use Rattle.std.specs.Prelude.{◌≡◌, Some, None, codes, true};
+ghost use Rattle.std.specs.List.{list_all};
+ghost use Rattle.cell_library.specs.Table.{line_of, table, arithmetic, binary};
+ghost use Rattle.cell_library.specs.Whole.{are_widths_given, names_differ};
+ghost use Rattle.circuit.specs.declared.cell.Op.TheVariants as op;
+
+/// A type is found by its whole name, and no other name is a type.
+#[tactic(auto, unfolding(crate::specs::Table::table))]
+pub fn law_of_examples()
+    ensures found { line_of (codes "$add") ≡ Some (arithmetic (binary (codes "$add") op.Add)) }
+    ensures longer { line_of (codes "$addx") ≡ None }
+    ensures shorter { line_of (codes "$ad") ≡ None }
+{}
+
+/// No two types have one name, and each port's width is made of parameters that its type must be given.
+#[tactic(auto, unfolding(crate::specs::Table::table))]
+pub fn law_of_table()
+    ensures names { names_differ table ≡ true }
+    ensures widths { list_all are_widths_given table ≡ true }
+{}
