@@ -2,3 +2,5 @@ pub mod Lines
 pub mod Names
 pub mod Table
 pub mod Whole
+pub mod Values
+pub mod Checks
