@@ -1,2 +1,4 @@
+pub mod Fits
+pub mod Joined
 pub mod Limits
 pub mod Parts

@@ -43,7 +43,7 @@ wide l settings cs e = first (limit_checks settings widest kind.TooWide l.ports)
     (second (slice_checks l.gives settings) (port_checks l.ports cs ++ (width_checks settings l.ports cs ++ (limit_checks settings widest kind.TooWide l.ports ++ limits_of l settings)))
     (second (parameter_checks settings l.parameters) (slice_checks l.gives settings ++ (port_checks l.ports cs ++ (width_checks settings l.ports cs ++ (limit_checks settings widest kind.TooWide l.ports ++ limits_of l settings)))) e))))
 
-passed : (b : Bool) (o : Option DesignKind) (k : DesignKind) → cond b o (Some k) ≡ None → (b ≡ true) × (o ≡ None)
+pub passed : (b : Bool) (o : Option DesignKind) (k : DesignKind) → cond b o (Some k) ≡ None → (b ≡ true) × (o ≡ None)
 passed true o k e = (refl, e)
 passed false o k e = cc
 

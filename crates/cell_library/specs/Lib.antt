@@ -4,3 +4,4 @@ pub mod Table
 pub mod Whole
 pub mod Values
 pub mod Checks
+pub mod Fit

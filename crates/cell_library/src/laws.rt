@@ -2,6 +2,7 @@
 ghost use Rattle.std.specs.Prelude.{◌≡◌, Some, None, codes, true};
 ghost use Rattle.std.specs.List.{list_all};
 ghost use Rattle.cell_library.specs.Table.{line_of, table, arithmetic, binary};
+ghost use Rattle.cell_library.specs.Fit.{AreFitting, AreJoined};
 ghost use Rattle.cell_library.specs.Whole.{are_widths_given, names_differ};
 ghost use Rattle.circuit.specs.declared.cell.Op.TheVariants as op;
 
@@ -18,4 +19,17 @@ pub fn law_of_examples()
 pub fn law_of_table()
     ensures names { names_differ table ≡ true }
     ensures widths { list_all are_widths_given table ≡ true }
+{}
+
+/// A cell that passes its checks has the widths that a valid circuit asks for: those of its type's `Op`, or the
+/// signals of its kind of register.
+#[tactic(auto, using(crate::proofs::Fits::are_fitting))]
+pub fn law_of_widths()
+    ensures { AreFitting }
+{}
+
+/// Each port that such a cell is joined by is one of its type, and joined to as many bits as the type has there.
+#[tactic(auto, using(crate::proofs::Joined::are_joined))]
+pub fn law_of_connections()
+    ensures { AreJoined }
 {}
