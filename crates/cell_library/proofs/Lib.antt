@@ -2,3 +2,4 @@ pub mod Fits
 pub mod Joined
 pub mod Limits
 pub mod Parts
+pub mod Types

@@ -13,7 +13,7 @@ mod values;
 mod written;
 
 pub use checks::{check_cell, port_named, port_width};
-pub use laws::{law_of_connections, law_of_examples, law_of_table, law_of_widths};
+pub use laws::{law_of_connections, law_of_examples, law_of_table, law_of_types, law_of_widths};
 pub use line::{Gives, Line, Parameter, Port, PortName, Range, Span, Way};
 pub use table::line_of;
 pub use values::{given, in_range, number, span_width};
