@@ -2,3 +2,4 @@ pub mod Slots
 pub mod Upto
 pub mod Counted
 pub mod Grown
+pub mod Read

@@ -1,9 +1,10 @@
 -- The words of a recording. A slot takes as many words of 32 bits as its width asks for, the least first, with unused high bits 0.
-use Rattle.std.specs.Prelude.{◌≡◌, ℕ, ◌+◌, ◌*◌, ◌/◌, ◌%◌, ◌^◌, ◌<◌, List, [], ◌∷◌, ◌++◌, length, take, drop, map, slice_index, Bool, not}
+use Rattle.std.specs.Prelude.{◌≡◌, ℕ, ◌+◌, ◌*◌, ◌/◌, ◌%◌, ◌^◌, ◌<◌, ◌≤◌, List, [], ◌∷◌, ◌++◌, length, take, drop, map, slice_index, Bool, not}
 use Rattle.std.specs.List.{filter, flat_map, range_with_len, All}
 use Rattle.std.specs.Int.{div_ceil}
 use Rattle.std.specs.Str.{bytes_eq}
 use Rattle.sim_base.specs.Shape.{words_of_width, words_of_widths}
+use Rattle.sim_base.specs.TimeText.{largest_time}
 use Rattle.spool_format.specs.declared.sample.Sample.{Sample}
 
 -- how many words stand before those of a slot
@@ -19,8 +20,9 @@ unfoldable pub slot_number : List ℕ → ℕ
 slot_number [] = 0
 slot_number (w ∷ ws) = slot_number ws * 2 ^ 32 + w
 
--- a sample of slots of these widths: it has the words of all, and each slot shows a number below 2 to its width
+-- a sample of slots of these widths: its time is one, it has the words of all slots, and each shows a number below 2 to its width
 pub record IsSampleOf (widths : List ℕ) (s : Sample) : Type 0 where
+  pub time : s.time ≤ largest_time
   pub room : length s.words ≡ words_of_widths widths
   pub below : (n : ℕ) → n < length widths → slot_number (slot_words widths s.words n) < 2 ^ slice_index widths n
 

@@ -1,6 +1,8 @@
 //! Laws of records. A function here does nothing: its contract is the law.
-ghost use Rattle.std.specs.Prelude.{◌≡◌, ◌≢◌, ◌%◌, ◌++◌, ◌∷◌, [], List, length, ℕ};
+ghost use Rattle.std.specs.Prelude.{◌≡◌, ◌≢◌, ◌≤◌, ◌%◌, ◌++◌, ◌∷◌, [], List, None, Some, length, ℕ};
+ghost use Rattle.sim_base.specs.TimeText.{largest_time};
 ghost use Rattle.spool_format.specs.declared.sample.Sample.{Sample};
+ghost use Rattle.spool_format.specs.Fields.{IsRead};
 ghost use Rattle.spool_format.specs.Records.{IsNext, Records, change_record, changed_slots, chunk_words, whole_record};
 ghost use Rattle.spool_format.specs.Worked.{counter, sample_of};
 
@@ -21,6 +23,17 @@ pub fn law_of_changes()
     ensures { (widths words : List ℕ) → (samples : List Sample) → (before s : Sample) → Records widths words (samples ++ before ∷ [])
         → IsNext widths (samples ++ before ∷ []) s → length (samples ++ before ∷ []) % 256 ≢ 0
         → Records widths (words ++ change_record widths before s) (samples ++ before ∷ s ∷ []) }
+{}
+
+/// Where a whole record stands, its fields are read, whatever is before and behind it.
+pub fn law_of_whole_fields()
+    ensures { (front rest : List ℕ) → (s : Sample) → s.time ≤ largest_time → IsRead (front ++ (whole_record s ++ rest)) (length front) 0 s.time None }
+{}
+
+/// Where a record of what changed stands, its fields are read, whatever is before and behind it.
+pub fn law_of_change_fields()
+    ensures { (widths front rest : List ℕ) → (before s : Sample) → s.time ≤ largest_time
+        → IsRead (front ++ (change_record widths before s ++ rest)) (length front) 1 s.time (Some (length (changed_slots widths before.words s.words))) }
 {}
 
 /// A clock and a counter over four samples, and slots of many widths: the third of them goes back to what it was two

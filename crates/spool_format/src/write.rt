@@ -140,11 +140,25 @@ fn room_of(widths: &[u32]) -> usize
     requires { words_of_widths widths.now < 2 ^ 64 }
     ensures { result ≡ words_of_widths widths.now }
 {
+    if is_one_each(widths) {
+        return widths.len();
+    }
     let mut room = 0usize;
     for width in widths {
         room += width.div_ceil(32) as usize;
     }
     room
+}
+
+/// Whether each of the slots takes one word. Most do, and this is told without a division.
+fn is_one_each(widths: &[u32]) -> bool
+    ensures { result ≡ true → words_of_widths widths.now ≡ length widths.now }
+{
+    let mut most = 0u32;
+    for width in widths {
+        most = most.max(width.wrapping_sub(1));
+    }
+    most < 32
 }
 
 /// Whether two runs of words are the same.
