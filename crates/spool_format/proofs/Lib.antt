@@ -3,3 +3,4 @@ pub mod Upto
 pub mod Counted
 pub mod Grown
 pub mod Read
+pub mod Told

@@ -7,7 +7,7 @@ use Rattle.spool_format.specs.declared.sample.Sample.{Sample}
 use Rattle.spool_format.specs.Records.{change_record, changed_slots, slots_with_words, time_words, whole_record}
 use Rattle.spool_format.specs.Fields.{IsRead, begins_record, changes_at, tag_at, time_at}
 
-time_again : (t : ℕ) → t ≤ largest_time → t % 2 ^ 32 + t / 2 ^ 32 % 2 ^ 32 * 2 ^ 32 + t / 2 ^ 64 % 2 ^ 32 * 2 ^ 64 ≡ t
+pub time_again : (t : ℕ) → t ≤ largest_time → t % 2 ^ 32 + t / 2 ^ 32 % 2 ^ 32 * 2 ^ 32 + t / 2 ^ 64 % 2 ^ 32 * 2 ^ 64 ≡ t
 time_again t h = omega arith
 
 time_read : (t : ℕ) → t ≤ largest_time → time_of t ≡ Some t

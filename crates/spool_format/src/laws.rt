@@ -1,9 +1,10 @@
 //! Laws of records. A function here does nothing: its contract is the law.
-ghost use Rattle.std.specs.Prelude.{◌≡◌, ◌≢◌, ◌≤◌, ◌%◌, ◌++◌, ◌∷◌, [], List, None, Some, length, ℕ};
+ghost use Rattle.std.specs.Prelude.{◌≡◌, ◌≢◌, ◌≤◌, ◌%◌, ◌++◌, ◌∷◌, [], List, None, Some, map, length, ℕ};
+ghost use Rattle.std.specs.List.{All};
 ghost use Rattle.sim_base.specs.TimeText.{largest_time};
 ghost use Rattle.spool_format.specs.declared.sample.Sample.{Sample};
 ghost use Rattle.spool_format.specs.Fields.{IsRead};
-ghost use Rattle.spool_format.specs.Records.{IsNext, Records, change_record, changed_slots, chunk_words, whole_record};
+ghost use Rattle.spool_format.specs.Records.{IsNext, IsSampleOf, Records, change_record, changed_slots, chunk_words, times, whole_record};
 ghost use Rattle.spool_format.specs.Worked.{counter, sample_of};
 
 /// No words record no samples.
@@ -50,4 +51,10 @@ pub fn worked_records()
         1 ∷ 1 ∷ 2 ∷ 3 ∷ 2 ∷ 2 ∷ 1 ∷ 3 ∷ 7 ∷ 9 ∷
         1 ∷ 2 ∷ 2 ∷ 3 ∷ 2 ∷ 0 ∷ 5 ∷ 0 ∷ 2 ∷ 0 ∷ [] }
     ensures same { changed_slots (33 ∷ 0 ∷ 1 ∷ []) (5 ∷ 1 ∷ 1 ∷ []) (5 ∷ 1 ∷ 1 ∷ []) ≡ [] }
+{}
+
+/// The words of a chunk tell its samples: those of another with the same words have the same times and words.
+pub fn law_of_reading()
+    ensures { (widths : List ℕ) → (one other : List Sample) → All (IsSampleOf widths) one → All (IsSampleOf widths) other
+        → chunk_words widths one ≡ chunk_words widths other → (times one ≡ times other) × (map (λ s. s.words) one ≡ map (λ s. s.words) other) }
 {}
