@@ -10,7 +10,7 @@ use Rattle.std.proofs.lemmas.List.Sums.{sum_by-append, sum_by-take-le, sum_by_mo
 use Rattle.std.proofs.lemmas.List.FromFn.{length-range_with_len}
 use Rattle.std.proofs.lemmas.Slice.Eq.{bytes_eq-Decides}
 use Rattle.sim_base.specs.Shape.{words_of_width, words_of_widths}
-use Rattle.spool_format.specs.Records.{place_of, slot_words, differs, changed_among, slots_with_words}
+use Rattle.spool_format.specs.Records.{place_of, slot_words, differs, changed_among, changed_slots, slots_with_words}
 
 -- the words before a slot, and those of a run of slots from it on
 pub place_more : (ws : List ℕ) (a e : ℕ) → a ≤ e → place_of ws a + words_of_widths (take (e - a) (drop a ws)) ≡ place_of ws e
@@ -111,3 +111,10 @@ none_changed ws old new a e p q low within is_p is_q same =
     none_differ ws old new a (e - a) (λ n from to.
     let one : slot_words ws old n ≡ slot_words ws new n = slot_same ws old new a e n from (omega arith) within there in
     ap not ((bytes_eq-Decides (slot_words ws old n) (slot_words ws new n)).1 one))
+
+-- where all words are the same none has changed
+pub all_same : (ws old new : List ℕ) → bytes_eq old new ≡ true → changed_slots ws old new ≡ []
+all_same ws old new same =
+    let one : old ≡ new = (bytes_eq-Decides old new).0 same in
+    none_differ ws old new 0 (length ws) (λ n from to.
+    ap not ((bytes_eq-Decides (slot_words ws old n) (slot_words ws new n)).1 (ap (λ xs. slot_words ws xs n) one)))

@@ -1,5 +1,5 @@
 //! Writing records.
-ghost use Rattle.std.specs.Prelude.{◌≡◌, ◌-◌, ◌^◌, ◌≤◌, ◌++◌, ◌∷◌, ◌<◌, true, if◌then◌else◌, IfOk, is_ok, length, take};
+ghost use Rattle.std.specs.Prelude.{◌≡◌, ◌-◌, ◌^◌, ◌≤◌, ◌++◌, ◌∷◌, ◌<◌, true, if◌then◌else◌, IfOk, is_ok, length, take, drop};
 ghost use Rattle.std.specs.Str.{bytes_eq};
 ghost use Rattle.sim_base.specs.Shape.{words_of_widths};
 ghost use Rattle.spool_format.specs.Records.{change_record, changed_among, changed_slots, place_of, slots_with_words, time_words, whole_record};
@@ -107,6 +107,9 @@ fn append_slots(
     ensures ok { is_ok result ≡ true → into.new.items ≡ into.old.items ++ slots_with_words widths.now new.now (changed_slots widths.now old.now new.now) }
     ensures begins { take (length into.old.items) into.new.items ≡ into.old.items }
 {
+    if same(old, new) {
+        return Ok(0);
+    }
     let mut slot = 0usize;
     let mut place = 0usize;
     let mut count = 0u32;
@@ -169,6 +172,21 @@ fn same(one: &[u32], other: &[u32]) -> bool
     one == other
 }
 
+/// Whether the words from `place` to `end` are the same. Most slots have one word.
+#[inline(always)]
+fn is_same_slot(old: &[u32], new: &[u32], place: usize, end: usize) -> bool
+    requires long { length old.now ≡ length new.now }
+    requires order { place ≤ end }
+    requires within { end ≤ length new.now }
+    ensures { result ≡ bytes_eq (take (end - place) (drop place old.now)) (take (end - place) (drop place new.now)) }
+{
+    if end - place == 1 {
+        old[place] == new[place]
+    } else {
+        same(&old[place..end], &new[place..end])
+    }
+}
+
 /// The same for the slots from `from` to `end`, whose words begin at a place.
 fn append_block(
     widths: &[u32],
@@ -194,9 +212,8 @@ fn append_block(
     let mut count = 0u32;
     for slot in from..end {
         let place_end = place + widths[slot].div_ceil(32) as usize;
-        let words = &new[place..place_end];
-        if !same(&old[place..place_end], words) {
-            append_slot(slot as u32, words, into)?;
+        if !is_same_slot(old, new, place, place_end) {
+            append_slot(slot as u32, &new[place..place_end], into)?;
             count += 1;
         }
         place = place_end;

@@ -1,7 +1,8 @@
 -- A block of slots is written, or passed over where its words are the same.
-use Rattle.std.proofs.Common.{◌≡◌, ◌+◌, refl, sym, ◌∙◌, arith}
-use Rattle.spool_format.specs.Records.{place_of}
-use Rattle.spool_format.proofs.Slots.{place_more, place_within}
+use Rattle.std.proofs.Common.{length, ap, ◌++◌, ◌≡◌, ◌+◌, refl, sym, ◌∙◌, arith}
+use Rattle.std.proofs.lemmas.List.{append-nil}
+use Rattle.spool_format.specs.Records.{place_of, slots_with_words}
+use Rattle.spool_format.proofs.Slots.{all_same, place_more, place_within, written_none}
 use Rattle.spool_format.proofs.Upto.{IsWritten-none, IsWritten-block, IsWritten-block_same, begins_on}
 use Rattle.spool_format.proofs.write.append_slots.Goals as goal
 
@@ -44,5 +45,15 @@ loop-slot-preserved c =
     let end : c.loop-slot.place + c.room_of.result ≡ place_of c.args.widths.now c.block_end-end.result = omega arith in
     record {
       within = c.block_end-end.ensures.within;
-      written = IsWritten-block_same _ _ c.loop-slot.invariant.written (omega arith) c.block_end-end.ensures.within end (sym c.same.ensures ∙ c.if-not-same.false);
+      written = IsWritten-block_same _ _ c.loop-slot.invariant.written (omega arith) c.block_end-end.ensures.within end (sym c.same-in-loop-slot.ensures ∙ c.if-not-same.false);
     }
+
+pub returns-then-same-clause-count : goal.returns-then-same-clause-count
+returns-then-same-clause-count c =
+    sym (ap length (all_same c.args.widths.now c.args.old.now c.args.new.now (sym c.same.ensures ∙ c.if-same.true)))
+
+pub returns-then-same-clause-ok : goal.returns-then-same-clause-ok
+returns-then-same-clause-ok c _ =
+    let none = all_same c.args.widths.now c.args.old.now c.args.new.now (sym c.same.ensures ∙ c.if-same.true) in
+    sym (ap (λ xs. c.args.into.now.items ++ slots_with_words c.args.widths.now c.args.new.now xs) none
+    ∙ ap (λ xs. c.args.into.now.items ++ xs) (written_none c.args.widths.now c.args.new.now) ∙ append-nil c.args.into.now.items)
