@@ -6,7 +6,7 @@ ghost use Rattle.cell_library.specs.Fit.{AreFitting, AreJoined};
 ghost use Rattle.cell_library.specs.Whole.{AreAllThere, are_widths_given, has_one_output, names_differ};
 ghost use Rattle.circuit.specs.declared.cell.Op.TheVariants as op;
 
-/// A type is found by its whole name, and no other name is a type.
+/// A type is found by its whole name alone, not by one that goes on or breaks off.
 #[tactic(auto, unfolding(crate::specs::Table::table))]
 pub fn law_of_examples()
     ensures found { line_of (codes "$add") ≡ Some (arithmetic (binary (codes "$add") op.Add)) }
