@@ -2,6 +2,16 @@
 #![tactic(auto)]
 
 #[cfg(test)]
+mod faults;
+#[cfg(test)]
+mod lists;
+#[cfg(test)]
 mod order;
 #[cfg(test)]
-mod validity;
+mod parts;
+#[cfg(test)]
+mod plans;
+#[cfg(test)]
+mod signals;
+#[cfg(test)]
+mod whole;
