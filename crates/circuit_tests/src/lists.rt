@@ -2,16 +2,11 @@
 //! and name what is there.
 use crate::parts::{Part, bits, item, node, put, scope, signal};
 use crate::signals::bare_memory;
-use crate::whole::{diagnostic, whole};
-use circuit::{Circuit, ItemKind};
-use std::process::Abort;
+use crate::whole::{check, diagnostic, whole};
+use circuit::ItemKind;
 
 /// A byte that no text of UTF-8 has.
 const NO_TEXT: &[u8] = b"\xFF";
-
-fn check(rt: &impl Abort, circuit: &Circuit, fits: bool, row: usize) {
-    assert!(rt; circuit.validate() == fits, "row {row}");
-}
 
 /// One item more at the end: its name and where it stands, its scope, its kind and its first slot.
 #[test]
@@ -34,11 +29,13 @@ fn items_rise_and_name_what_is_there(rt: HostRuntime) {
         ([NO_TEXT, b""], 1, node(4), 8, false),
         ([b"sum2", NO_TEXT], 1, node(4), 8, false),
     ];
-    for (n, row) in rows.iter().enumerate() {
+    let mut n = 0u32;
+    for (texts, scope, kind, slot, fits) in rows {
         let mut circuit = whole(&rt);
-        let more = item(&rt, row.0, row.1, row.2, row.3);
+        let more = item(&rt, texts, scope, kind, slot);
         put(&rt, &mut circuit.items, more);
-        check(&rt, &circuit, row.4, n);
+        check(&rt, circuit, fits, n);
+        n = n.saturating_add(1);
     }
 }
 
@@ -54,7 +51,7 @@ fn fewer_than_4294967296_slots_have_a_number(rt: HostRuntime) {
         put(&rt, &mut circuit.mems, bare_memory(&rt, 0, size, 0));
         let more = item(&rt, [b"z", b""], 0, ItemKind::Memory { mem: 1 }, 8);
         put(&rt, &mut circuit.items, more);
-        assert!(&rt; circuit.validate() == fits, "{size} rows");
+        check(&rt, circuit, fits, size);
     }
 }
 
@@ -64,7 +61,7 @@ fn inputs_are_items_and_stand_once(rt: HostRuntime) {
     for (net, fits) in [(2, true), (4, false), (1, false), (8, false)] {
         let mut circuit = whole(&rt);
         put(&rt, &mut circuit.inputs, net);
-        assert!(&rt; circuit.validate() == fits, "net {net}");
+        check(&rt, circuit, fits, net);
     }
 }
 
@@ -81,16 +78,18 @@ fn scopes_have_names_of_their_own(rt: HostRuntime) {
         ([b"core adder", b"adder", NO_TEXT, b""], false),
         ([b"core adder", b"adder", b"", NO_TEXT], false),
     ];
-    for (n, row) in rows.iter().enumerate() {
+    let mut n = 0u32;
+    for (texts, fits) in rows {
         let mut circuit = whole(&rt);
-        put(&rt, &mut circuit.scopes, scope(&rt, row.0));
-        check(&rt, &circuit, row.1, n);
+        put(&rt, &mut circuit.scopes, scope(&rt, texts));
+        check(&rt, circuit, fits, n);
+        n = n.saturating_add(1);
     }
     let mut circuit = whole(&rt);
     let top = scope(&rt, [b"top", b"top", b"", b""]);
     assert!(&rt; circuit.scopes.len() == 2);
     circuit.scopes.set(0, top);
-    assert!(&rt; !circuit.validate());
+    check(&rt, circuit, false, n);
 }
 
 /// One diagnostic more at the end: its text, its signal, the width of its enable and its trigger, which has one edge.
@@ -108,11 +107,13 @@ fn diagnostics_have_signals_of_one_bit(rt: HostRuntime) {
         (b"odd", bits(1), 0, bits(1), false),
         (NO_TEXT, bits(1), 1, bits(1), false),
     ];
-    for (n, row) in rows.iter().enumerate() {
+    let mut n = 0u32;
+    for (text, a, en, on, fits) in rows {
         let mut circuit = whole(&rt);
-        let mut more = diagnostic(&rt, row.0, row.1, row.3);
-        more.en = signal(&rt, bits(row.2));
+        let mut more = diagnostic(&rt, text, a, on);
+        more.en = signal(&rt, bits(en));
         put(&rt, &mut circuit.diags, more);
-        check(&rt, &circuit, row.4, n);
+        check(&rt, circuit, fits, n);
+        n = n.saturating_add(1);
     }
 }

@@ -1,22 +1,18 @@
 //! Each test adds one part to a circuit with one of everything: where the part fits the circuit stays valid, and where
 //! one thing of it is changed it does not.
 use crate::parts::{Driver, Part, bits, cell, drive, flags, net, put, register, signal, value};
-use crate::whole::{read_port, whole, write_port};
-use circuit::{Circuit, Mem, Op, RegKind};
+use crate::whole::{check, read_port, whole, write_port};
+use circuit::{Mem, Op, RegKind};
 use sqlite_items::Items;
 use std::alloc::AllocGlobal;
 use std::process::Abort;
-
-fn check(rt: &impl Abort, circuit: &Circuit, fits: bool, row: usize) {
-    assert!(rt; circuit.validate() == fits, "row {row}");
-}
 
 #[test]
 fn a_net_has_at_most_65536_bits(rt: HostRuntime) {
     for (width, fits) in [(0, true), (65_536, true), (65_537, false)] {
         let mut circuit = whole(&rt);
         put(&rt, &mut circuit.nets, net(&rt, "\\wide", width));
-        assert!(&rt; circuit.validate() == fits, "a net of {width} bits");
+        check(&rt, circuit, fits, width);
     }
 }
 
@@ -48,11 +44,21 @@ fn drives_lie_inside_their_nets_and_drivers(rt: HostRuntime) {
         ((1, 0, 8), Driver::Const(7), false),
         ((1, 0, 8), Driver::Const(9), false),
     ];
-    for (n, row) in rows.iter().enumerate() {
+    let mut n = 0u32;
+    for (part, driver, fits) in rows {
         let mut circuit = whole(&rt);
-        put(&rt, &mut circuit.drives, drive(&rt, row.0, row.1));
-        check(&rt, &circuit, row.2, n);
+        put(&rt, &mut circuit.drives, drive(&rt, part, driver));
+        check(&rt, circuit, fits, n);
+        n = n.saturating_add(1);
     }
+}
+
+/// Checks whether a cell of these operands fits.
+fn check_operands<R: AllocGlobal + Abort>(rt: &R, a: Part, b: Part, fits: bool) {
+    let mut circuit = whole(rt);
+    let joined = cell(rt, Op::And, 8, a, b);
+    put(rt, &mut circuit.cells, joined);
+    check(rt, circuit, fits, a.1.max(b.1));
 }
 
 /// Net 3 has 9 bits, and there is no net 8.
@@ -66,15 +72,9 @@ fn parts_lie_inside_their_nets(rt: HostRuntime) {
         ((3, 4_294_967_295, 1), false),
         ((8, 0, 8), false),
     ];
-    for (n, row) in rows.iter().enumerate() {
-        let mut circuit = whole(&rt);
-        let first = cell(&rt, Op::And, 8, row.0, bits(0));
-        put(&rt, &mut circuit.cells, first);
-        check(&rt, &circuit, row.1, n);
-        let mut circuit = whole(&rt);
-        let second = cell(&rt, Op::And, 8, bits(0), row.0);
-        put(&rt, &mut circuit.cells, second);
-        check(&rt, &circuit, row.1, n);
+    for (part, fits) in rows {
+        check_operands(&rt, part, bits(0), fits);
+        check_operands(&rt, bits(0), part, fits);
     }
 }
 
@@ -87,12 +87,16 @@ fn a_signal_has_at_most_65536_bits(rt: HostRuntime) {
         let more = signal(&rt, bits(width));
         wide.a.append(more).expect(&rt, "memory");
         put(&rt, &mut circuit.cells, wide);
-        assert!(&rt; circuit.validate() == fits, "{width} bits and one");
+        check(&rt, circuit, fits, width);
     }
 }
 
 /// The widths of a cell's output and of its signals.
 type Widths = (u32, u32, u32, u32);
+
+fn check_type(rt: &impl Abort, same: bool, op: Op, widths: Widths) {
+    assert!(rt; same, "{op:?} {widths:?}");
+}
 
 /// Checks whether a cell with an offset fits.
 fn check_cell<R: AllocGlobal + Abort>(rt: &R, op: Op, offset: u32, widths: Widths, fits: bool) {
@@ -101,7 +105,8 @@ fn check_cell<R: AllocGlobal + Abort>(rt: &R, op: Op, offset: u32, widths: Width
     more.s = signal(rt, bits(widths.3));
     more.offset = offset;
     put(rt, &mut circuit.cells, more);
-    assert!(rt; circuit.validate() == fits, "{op:?} {widths:?}");
+    let fit = circuit.validate();
+    check_type(rt, fit == fits, op, widths);
 }
 
 /// Checks cells of which each has or has not its widths.
@@ -229,7 +234,13 @@ fn selections_tie_the_widths_of_their_ports(rt: HostRuntime) {
 type RegWidths = ([u32; 7], [u32; 2]);
 
 /// Checks whether a register of 4 bits fits.
-fn check_register<R: AllocGlobal + Abort>(rt: &R, kind: RegKind, widths: RegWidths, fits: bool) {
+fn check_register<R: AllocGlobal + Abort>(
+    rt: &R,
+    kind: RegKind,
+    widths: RegWidths,
+    fits: bool,
+    row: u32,
+) {
     let mut circuit = whole(rt);
     let [clk, d, en, set, clr, load, ad] = widths.0;
     let ports = [
@@ -243,7 +254,7 @@ fn check_register<R: AllocGlobal + Abort>(rt: &R, kind: RegKind, widths: RegWidt
     ];
     let more = register(rt, kind, 4, ports, widths.1);
     put(rt, &mut circuit.regs, more);
-    assert!(rt; circuit.validate() == fits, "{kind:?} {widths:?}");
+    check(rt, circuit, fits, row);
 }
 
 #[test]
@@ -265,8 +276,10 @@ fn each_kind_of_register_has_its_ports(rt: HostRuntime) {
         (RegKind::Adlatch, [0, 4, 1, 0, 1, 0, 0]),
         (RegKind::Dlatchsr, [0, 4, 1, 4, 4, 0, 0]),
     ];
+    let mut n = 0u32;
     for (kind, ports) in rows {
-        check_register(&rt, kind, (ports, [4, 4]), true);
+        check_register(&rt, kind, (ports, [4, 4]), true, n);
+        n = n.saturating_add(1);
     }
 }
 
@@ -299,8 +312,10 @@ fn a_register_has_no_other_ports(rt: HostRuntime) {
         (RegKind::Dlatch, [1, 4, 1, 0, 0, 0, 0], [4, 4]),
         (RegKind::Dlatch, [0, 4, 0, 0, 0, 0, 0], [4, 4]),
     ];
+    let mut n = 0u32;
     for (kind, ports, values) in rows {
-        check_register(&rt, kind, (ports, values), false);
+        check_register(&rt, kind, (ports, values), false, n);
+        n = n.saturating_add(1);
     }
 }
 
@@ -328,14 +343,13 @@ fn a_memory_has_its_rows(rt: HostRuntime) {
         (65_536, 65_536, 0, false),
         (0, 4_294_967_295, 0, true),
     ];
-    for (n, row) in rows.iter().enumerate() {
+    let mut n = 0u32;
+    for (width, size, init, fits) in rows {
         let mut circuit = whole(&rt);
-        put(
-            &rt,
-            &mut circuit.mems,
-            bare_memory(&rt, row.0, row.1, row.2),
-        );
-        check(&rt, &circuit, row.3, n);
+        let memory = bare_memory(&rt, width, size, init);
+        put(&rt, &mut circuit.mems, memory);
+        check(&rt, circuit, fits, n);
+        n = n.saturating_add(1);
     }
 }
 
@@ -348,18 +362,14 @@ fn check_ports<R: AllocGlobal + Abort>(
     other: u32,
     write: [u32; 3],
     fits: bool,
+    row: u32,
 ) {
     let mut memory = bare_memory(rt, 8, 4, 32);
     let mut first = read_port(rt, true, bits(read[2]), (read[3], 0));
     first.clk = signal(rt, bits(read[0]));
     first.en = signal(rt, bits(read[1]));
-    first.see = if read[4] == 0 {
-        flags(rt, &[])
-    } else if read[4] == 1 {
-        flags(rt, &[true])
-    } else {
-        flags(rt, &[true, true])
-    };
+    let all = [true, true];
+    first.see = flags(rt, &all[..read[4].min(2) as usize]);
     put(rt, &mut memory.reads, first);
     let second = read_port(rt, true, bits(other), (8, 0));
     put(rt, &mut memory.reads, second);
@@ -367,7 +377,7 @@ fn check_ports<R: AllocGlobal + Abort>(
     put(rt, &mut memory.writes, written);
     let mut circuit = whole(rt);
     put(rt, &mut circuit.mems, memory);
-    assert!(rt; circuit.validate() == fits, "{read:?} {other} {write:?}");
+    check(rt, circuit, fits, row);
 }
 
 #[test]
@@ -386,7 +396,9 @@ fn ports_of_a_memory_have_its_widths(rt: HostRuntime) {
         ([1, 1, 2, 8, 1], 2, [1, 2, 8], false),
         ([1, 1, 2, 8, 1], 2, [8, 2, 9], false),
     ];
+    let mut n = 0u32;
     for (read, other, write, fits) in rows {
-        check_ports(&rt, read, other, write, fits);
+        check_ports(&rt, read, other, write, fits, n);
+        n = n.saturating_add(1);
     }
 }

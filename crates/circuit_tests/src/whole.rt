@@ -186,19 +186,29 @@ pub fn whole<R: AllocGlobal + Abort>(rt: &R) -> Circuit {
     circuit
 }
 
-/// Checks the widths of values of at most 64 bits, and their numbers.
-fn check_values(rt: &impl Abort, values: &Values, wanted: &[(u32, u64)]) {
-    assert!(rt; values.len() == wanted.len());
-    for n in 0..values.len() {
-        let (width, number) = wanted[n];
-        let view = values.view(n as u32);
-        assert!(rt; view.width() == width && view.field(0, width.min(64)) == number);
+fn same(rt: &impl Abort, same: bool, row: u32) {
+    assert!(rt; same, "row {row}");
+}
+
+/// Checks whether a circuit is valid.
+pub fn check(rt: &impl Abort, circuit: Circuit, fits: bool, row: u32) {
+    let fit = circuit.validate();
+    same(rt, fit == fits, row);
+}
+
+/// Whether a value at a place has this width, of at most 64 bits, and this number.
+fn has(values: &Values, n: u32, width: u32, number: u64) -> bool {
+    if (n as usize) < values.len() && values.width(n) == width && width <= 64 {
+        values.word(n) == number
+    } else {
+        false
     }
 }
 
-fn check_bits(rt: &impl Abort, bits: &Bits, wanted: (u32, u64)) {
-    assert!(rt; bits.width() == wanted.0);
-    assert!(rt; bits.field(0, wanted.0.min(64)) == wanted.1);
+/// The number of a value of 16 bits.
+fn number(rt: &impl Abort, bits: &Bits) -> u64 {
+    assert!(rt; bits.width() == 16);
+    bits.field(0, 16)
 }
 
 #[test]
@@ -209,22 +219,27 @@ fn a_circuit_with_one_of_everything_is_valid(rt: HostRuntime) {
     let widths = [1, 16, 16, 16, 16, 8, 8, 9, 1, 1];
     assert_eq!(&rt; shape.widths(), widths.as_slice());
     let store = Store::new(rt.alloc(), &circuit).expect(&rt, "memory");
-    let nets = [
-        (1, 0),
-        (8, 0),
-        (8, 0),
-        (9, 0),
-        (8, 0),
-        (16, 0),
-        (16, 0),
-        (8, 0),
+    let nets: [(u32, u32); 8] = [
+        (0, 1),
+        (1, 8),
+        (2, 8),
+        (3, 9),
+        (4, 8),
+        (5, 16),
+        (6, 16),
+        (7, 8),
     ];
-    check_values(&rt, &store.nets, &nets);
-    check_values(&rt, &store.cells, &[(9, 0), (8, 0)]);
-    check_values(&rt, &store.regs, &[(8, 0x5A)]);
-    assert!(&rt; store.reads.len() == 1);
+    assert!(&rt; store.nets.len() == nets.len());
+    for (n, width) in nets {
+        assert!(&rt; has(&store.nets, n, width, 0));
+    }
+    assert!(&rt; has(&store.cells, 0, 9, 0));
+    assert!(&rt; has(&store.cells, 1, 8, 0));
+    assert!(&rt; has(&store.regs, 0, 8, 0x5A));
+    assert!(&rt; store.cells.len() == 2);
+    assert!(&rt; store.regs.len() == 1 && store.reads.len() == 1);
     let reads = store.reads.as_slice()[0].as_slice();
     assert!(&rt; reads.len() == 2);
-    check_bits(&rt, &reads[0], (16, 0xA55A));
-    check_bits(&rt, &reads[1], (16, 0));
+    assert!(&rt; number(&rt, &reads[0]) == 0xA55A);
+    assert!(&rt; number(&rt, &reads[1]) == 0);
 }
