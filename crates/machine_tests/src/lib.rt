@@ -1,5 +1,15 @@
-//! Tests of `eval_commit`, which use its public items alone.
+//! Tests of `eval_commit` over whole circuits, which use its public items alone.
 #![tactic(auto)]
 
 #[cfg(test)]
-mod machine;
+mod diagnostics;
+#[cfg(test)]
+mod memories;
+#[cfg(test)]
+mod parts;
+#[cfg(test)]
+mod registers;
+#[cfg(test)]
+mod samples;
+#[cfg(test)]
+mod sources;

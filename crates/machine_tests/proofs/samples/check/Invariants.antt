@@ -1,4 +1,4 @@
-use Rattle.machine_tests.proofs.machine.samples.check.Given as goal
+use Rattle.machine_tests.proofs.samples.check.Given as goal
 
 abbrev pub ghosts-runs : goal.ghosts-runs
 ghosts-runs g a = record { name = a.blank.name; parts = a.blank.parts }

@@ -1,5 +1,5 @@
 use Rattle.std.proofs.Common.{◌≡◌}
-use Rattle.machine_tests.proofs.machine.samples.goes_through.Given as goal
+use Rattle.machine_tests.proofs.samples.goes_through.Given as goal
 
 abbrev pub invariant-loop-sample : goal.invariant-loop-sample
 invariant-loop-sample g l = l.machine.circuit ≡ l.circuit
