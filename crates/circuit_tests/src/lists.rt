@@ -1,6 +1,6 @@
 //! Each test adds to the lists of a circuit with one of everything: items, inputs, scopes and diagnostics are in order,
 //! and name what is there.
-use crate::parts::{Part, bits, item, node, put, scope, signal};
+use crate::parts::{Part, bits, item, name, node, put, scope, signal};
 use crate::signals::bare_memory;
 use crate::whole::{check, diagnostic, whole};
 use circuit::ItemKind;
@@ -92,25 +92,28 @@ fn scopes_have_names_of_their_own(rt: HostRuntime) {
     check(&rt, circuit, false, n);
 }
 
-/// One diagnostic more at the end: its text, its signal, the width of its enable and its trigger, which has one edge.
+/// One diagnostic more at the end: its text and where it stands, its signal, the width of its enable and its trigger,
+/// which has one edge.
 #[test]
 fn diagnostics_have_signals_of_one_bit(rt: HostRuntime) {
-    let rows: [(&[u8], Part, u32, Part, bool); 10] = [
-        (b"odd", bits(1), 1, bits(1), true),
-        (b"even", bits(1), 1, bits(1), true),
-        (b"odd", bits(1), 1, bits(0), false),
-        (b"odd", bits(1), 1, bits(2), false),
-        (b"odd", bits(2), 1, bits(1), false),
-        (b"odd", bits(0), 1, bits(1), false),
-        (b"odd", (0, 1, 1), 1, bits(1), false),
-        (b"odd", bits(1), 2, bits(1), false),
-        (b"odd", bits(1), 0, bits(1), false),
-        (NO_TEXT, bits(1), 1, bits(1), false),
+    let rows: [([&[u8]; 2], Part, u32, Part, bool); 11] = [
+        ([b"odd", b""], bits(1), 1, bits(1), true),
+        ([b"even", b""], bits(1), 1, bits(1), true),
+        ([b"odd", b""], bits(1), 1, bits(0), false),
+        ([b"odd", b""], bits(1), 1, bits(2), false),
+        ([b"odd", b""], bits(2), 1, bits(1), false),
+        ([b"odd", b""], bits(0), 1, bits(1), false),
+        ([b"odd", b""], (0, 1, 1), 1, bits(1), false),
+        ([b"odd", b""], bits(1), 2, bits(1), false),
+        ([b"odd", b""], bits(1), 0, bits(1), false),
+        ([NO_TEXT, b""], bits(1), 1, bits(1), false),
+        ([b"odd", NO_TEXT], bits(1), 1, bits(1), false),
     ];
     let mut n = 0u32;
-    for (text, a, en, on, fits) in rows {
+    for (texts, a, en, on, fits) in rows {
         let mut circuit = whole(&rt);
-        let mut more = diagnostic(&rt, text, a, on);
+        let mut more = diagnostic(&rt, texts[0], a, on);
+        more.src = Some(name(&rt, texts[1]));
         more.en = signal(&rt, bits(en));
         put(&rt, &mut circuit.diags, more);
         check(&rt, circuit, fits, n);

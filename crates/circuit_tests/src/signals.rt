@@ -355,12 +355,12 @@ fn a_memory_has_its_rows(rt: HostRuntime) {
 
 /// Checks whether a memory of four rows of 8 bits fits that has a read port with these widths of its clock, its
 /// enable, its address and its start value, which sees so many ports, another one with such an address, and a write
-/// port with these widths of its enable, its address and its word.
+/// port with these widths of its enable, its address, its word and its clock.
 fn check_ports<R: AllocGlobal + Abort>(
     rt: &R,
     read: [u32; 5],
     other: u32,
-    write: [u32; 3],
+    write: [u32; 4],
     fits: bool,
     row: u32,
 ) {
@@ -373,7 +373,8 @@ fn check_ports<R: AllocGlobal + Abort>(
     put(rt, &mut memory.reads, first);
     let second = read_port(rt, true, bits(other), (8, 0));
     put(rt, &mut memory.reads, second);
-    let written = write_port(rt, bits(write[0]), bits(write[1]), bits(write[2]));
+    let mut written = write_port(rt, bits(write[0]), bits(write[1]), bits(write[2]));
+    written.clk = signal(rt, bits(write[3]));
     put(rt, &mut memory.writes, written);
     let mut circuit = whole(rt);
     put(rt, &mut circuit.mems, memory);
@@ -382,19 +383,20 @@ fn check_ports<R: AllocGlobal + Abort>(
 
 #[test]
 fn ports_of_a_memory_have_its_widths(rt: HostRuntime) {
-    let rows: [([u32; 5], u32, [u32; 3], bool); 12] = [
-        ([1, 1, 2, 8, 1], 2, [8, 2, 8], true),
-        ([1, 1, 3, 8, 1], 3, [8, 3, 8], true),
-        ([1, 1, 3, 8, 1], 2, [8, 2, 8], false),
-        ([1, 1, 2, 8, 1], 3, [8, 2, 8], false),
-        ([1, 1, 2, 8, 1], 2, [8, 1, 8], false),
-        ([0, 1, 2, 8, 1], 2, [8, 2, 8], false),
-        ([1, 2, 2, 8, 1], 2, [8, 2, 8], false),
-        ([1, 1, 2, 8, 0], 2, [8, 2, 8], false),
-        ([1, 1, 2, 8, 2], 2, [8, 2, 8], false),
-        ([1, 1, 2, 7, 1], 2, [8, 2, 8], false),
-        ([1, 1, 2, 8, 1], 2, [1, 2, 8], false),
-        ([1, 1, 2, 8, 1], 2, [8, 2, 9], false),
+    let rows: [([u32; 5], u32, [u32; 4], bool); 13] = [
+        ([1, 1, 2, 8, 1], 2, [8, 2, 8, 1], true),
+        ([1, 1, 3, 8, 1], 3, [8, 3, 8, 1], true),
+        ([1, 1, 3, 8, 1], 2, [8, 2, 8, 1], false),
+        ([1, 1, 2, 8, 1], 3, [8, 2, 8, 1], false),
+        ([1, 1, 2, 8, 1], 2, [8, 1, 8, 1], false),
+        ([0, 1, 2, 8, 1], 2, [8, 2, 8, 1], false),
+        ([1, 2, 2, 8, 1], 2, [8, 2, 8, 1], false),
+        ([1, 1, 2, 8, 0], 2, [8, 2, 8, 1], false),
+        ([1, 1, 2, 8, 2], 2, [8, 2, 8, 1], false),
+        ([1, 1, 2, 7, 1], 2, [8, 2, 8, 1], false),
+        ([1, 1, 2, 8, 1], 2, [1, 2, 8, 1], false),
+        ([1, 1, 2, 8, 1], 2, [8, 2, 9, 1], false),
+        ([1, 1, 2, 8, 1], 2, [8, 2, 8, 2], false),
     ];
     let mut n = 0u32;
     for (read, other, write, fits) in rows {
