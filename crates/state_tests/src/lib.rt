@@ -4,4 +4,8 @@
 #[cfg(test)]
 mod memories;
 #[cfg(test)]
+mod parts;
+#[cfg(test)]
 mod registers;
+#[cfg(test)]
+mod triggers;

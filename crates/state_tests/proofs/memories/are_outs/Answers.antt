@@ -1,20 +1,19 @@
 use Rattle.std.proofs.Common.{◌≡◌, ◌<◌, ℕ, zero, suc, List, [], ◌∷◌, length, map, get_or, below_more, true, false, ◌&&◌, eqb, refl, sym, ◌∙◌, ap, arith}
 use Rattle.std.proofs.lemmas.Bool.{and_parts}
 use Rattle.std.proofs.lemmas.Grind.{same_number_lists}
-use Rattle.std.proofs.lemmas.List.{length-map}
+use Rattle.std.proofs.lemmas.List.{get_or-map, length-map}
 use Rattle.sim_base.specs.BitValue.{BitValue}
 use Rattle.circuit.specs.declared.memory.ReadPort.{ReadPort}
 use Rattle.sim_base.specs.Values.{width_at, widths}
-use Rattle.signal_words.proofs.Signals.{width_read}
 use Rattle.state_cells.proofs.Fitting.{eq_from}
 use Rattle.memory_cells.proofs.ReadAfter.{same_width_at}
-use Rattle.state_tests.proofs.memories.memories.are_outs.Goals as goal
+use Rattle.state_tests.proofs.memories.are_outs.Goals as goal
 
 pub loop-out-preserved : goal.loop-out-preserved
 loop-out-preserved c = λ e.
     let t = and_parts c.loop-out.fit (eqb c.width.result c.args.mem.now.width) e in
     let done = c.loop-out.invariant t.0 in
-    let here : width_at c.args.outs.now c.loop-out.out-index ≡ c.args.mem.now.width = width_read c.args.outs.now c.loop-out.out-index c.out-item.result c.loop-out-test.true c.out-item.is ∙ sym c.width.ensures.value ∙ eq_from c.width.result c.args.mem.now.width t.1 in
+    let here : width_at c.args.outs.now c.loop-out.out-index ≡ c.args.mem.now.width = get_or-map (λ (x : BitValue). x.width) c.args.outs.now c.loop-out.out-index c.out-item.result 0 c.loop-out-test.true ∙ ap (λ (x : BitValue). x.width) (sym c.out-item.is) ∙ sym c.width.ensures.value ∙ eq_from c.width.result c.args.mem.now.width t.1 in
     (done.0, below_more (λ k. get_or (widths c.args.outs.now) k 0 ≡ c.args.mem.now.width) c.loop-out.out-index done.1 here)
 
 pub returns : goal.returns

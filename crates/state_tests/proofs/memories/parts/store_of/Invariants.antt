@@ -1,5 +1,0 @@
-use Rattle.signal_words.specs.Stores.{IsStoreOf}
-use Rattle.state_tests.proofs.memories.parts.store_of.Given as goal
-
-abbrev pub invariant-loop-number : goal.invariant-loop-number
-invariant-loop-number l = IsStoreOf l.circuit l.store
