@@ -2,10 +2,16 @@
 #![tactic(auto)]
 
 #[cfg(test)]
-mod forms;
+mod arithmetic;
+#[cfg(test)]
+mod cells;
+#[cfg(test)]
+mod nets;
+#[cfg(test)]
+mod selections;
+#[cfg(test)]
+mod shifts;
 #[cfg(test)]
 mod signals;
 #[cfg(test)]
-mod wides;
-#[cfg(test)]
-mod words;
+mod widths;
