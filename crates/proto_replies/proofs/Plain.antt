@@ -69,7 +69,7 @@ escape-state state.Finished = refl
 
 -- an error has no other text than its two words
 error-json : (kind : ErrorKind) → answer_text (answer.Error kind) ≡ compact_text (answer_data (answer.Error kind))
-unfolding escape_byte
+unfolding escape_byte answer_data
 error-json error.InvalidJson = refl
 error-json error.InvalidPacket = refl
 error-json error.InvalidCommand = refl
@@ -93,21 +93,25 @@ abbrev greeting_before : List ℕ
 greeting_before = take (length greeting_text - 2) greeting_text
 
 greeting-json : answer_text answer.Greeting ≡ compact_text (answer_data answer.Greeting)
-unfolding escape_byte texts
+unfolding escape_byte texts answer_data
 greeting-json = ap (λ version. greeting_before ++ (version ++ 125 ∷ [])) (sym (decimal_digit 0 (omega arith)))
 
 finished-json : (time : ℕ) → time ≤ largest_time → answer_text (answer.Finished time) ≡ compact_text (answer_data (answer.Finished time))
-unfolding escape_byte
+unfolding escape_byte answer_data
 finished-json time inside = ap (λ rest. codes "{\"event\":\"simulation_finished\",\"time\":\"" ++ rest) (quoted-plain (time_text time) (codes ",\"type\":\"event\"}") (escape-time time inside))
 
+pause-json : (time : ℕ) → time ≤ largest_time → answer_text (answer.PauseSimulation time) ≡ compact_text (answer_data (answer.PauseSimulation time))
+unfolding escape_byte answer_data
+pause-json time inside = ap (λ rest. codes "{\"command\":\"pause_simulation\",\"time\":\"" ++ rest) (quoted-plain (time_text time) (codes ",\"type\":\"response\"}") (escape-time time inside))
+
 paused-json : (time : ℕ) → time ≤ largest_time → (why : Cause) → answer_text (answer.Paused why time) ≡ compact_text (answer_data (answer.Paused why time))
-unfolding escape_byte
+unfolding escape_byte answer_data
 paused-json time inside cause.UntilTime = ap (λ rest. codes "{\"cause\":\"until_time\",\"event\":\"simulation_paused\",\"time\":\"" ++ rest) (quoted-plain (time_text time) (codes ",\"type\":\"event\"}") (escape-time time inside))
 paused-json time inside cause.UntilDiagnostics = ap (λ rest. codes "{\"cause\":\"until_diagnostics\",\"event\":\"simulation_paused\",\"time\":\"" ++ rest) (quoted-plain (time_text time) (codes ",\"type\":\"event\"}") (escape-time time inside))
 
 -- the time of the next sample among the other keys
 next-json : (next : Option ℕ) (more : Members) → IsNoneOrTime next → next_text next ++ members_text true more ≡ members_text true (next_at next more)
-unfolding escape_byte
+unfolding escape_byte answer_data
 next-json None more times = refl
 next-json (Some time) more times = ap (λ text. codes ",\"next_sample_time\":\"" ++ (text ++ 34 ∷ [] ++ members_text true more)) (sym (escape-time time times))
 
@@ -116,7 +120,7 @@ regroup a b c d e f = append_assoc (a ++ b ++ c ++ d) e f ∙ append_assoc (a ++
 
 status-json : (latest : ℕ) (how : RunState) (next : Option ℕ) → (latest ≤ largest_time) × IsNoneOrTime next
     → answer_text (answer.Status latest how next) ≡ compact_text (answer_data (answer.Status latest how next))
-unfolding escape_byte
+unfolding escape_byte answer_data
 status-json latest how next times =
     let state = text_at (codes "status") (state_word how) (text_at (codes "type") (codes "response") no_members) in
     ap (λ rest. codes "{\"command\":\"get_simulation_status\",\"latest_time\":\"" ++ rest)
@@ -127,15 +131,17 @@ status-json latest how next times =
 
 -- the text of each answer is that of its keys and their values
 pub answer-json : (a : Answer) → AreTimes a → answer_text a ≡ compact_text (answer_data a)
-unfolding escape_byte
+unfolding escape_byte answer_data
 answer-json answer.Greeting times = greeting-json
+answer-json answer.ReferenceItems times = refl
 answer-json answer.RunSimulation times = refl
+answer-json (answer.PauseSimulation time) times = pause-json time times
 answer-json (answer.Status latest how next) times = status-json latest how next times
 answer-json (answer.Paused why time) times = paused-json time times why
 answer-json (answer.Finished time) times = finished-json time times
 answer-json (answer.Error kind) times = error-json kind
 
 -- the pieces of an answer, and the zero byte, are its packet
-pub packet_json : (a : Answer) (text : List ℕ) → AreTimes a → text ≡ answer_text a → text ++ 0 ∷ [] ≡ packet_text a
+pub packet_json : (a : Answer) (text : List ℕ) → AreTimes a → text ≡ answer_text a → text ++ 0 ∷ [] ≡ packet_text (answer_data a)
 unfolding packet_text
 packet_json a text times is = ap (λ z. z ++ 0 ∷ []) (is ∙ answer-json a times)

@@ -1,4 +1,4 @@
--- What the text of an answer says, as JSON: its keys and their values.
+-- Answers as data: the keys and values of each, as JSON, and the text of a packet.
 use Rattle.std.specs.Prelude.{⊤, ℕ, ◌≤◌, List, [], ◌∷◌, ◌++◌, Option, Some, None, codes}
 use Rattle.serde_json.specs.Data.{Data, number, string, array, object, unsigned, Items, no_items, item, Members, no_members, member}
 use Rattle.serde_json.specs.Written.{compact_text}
@@ -37,8 +37,14 @@ answer_members answer.Greeting =
     (member (codes "features") (object features)
     (text_at (codes "type") (codes "greeting")
     (member (codes "version") (number (unsigned 0)) no_members))))
+answer_members answer.ReferenceItems =
+    text_at (codes "command") (codes "reference_items") (text_at (codes "type") (codes "response") no_members)
 answer_members answer.RunSimulation =
     text_at (codes "command") (codes "run_simulation") (text_at (codes "type") (codes "response") no_members)
+answer_members (answer.PauseSimulation time) =
+    text_at (codes "command") (codes "pause_simulation")
+    (text_at (codes "time") (time_text time)
+    (text_at (codes "type") (codes "response") no_members))
 answer_members (answer.Status latest how next) =
     text_at (codes "command") (codes "get_simulation_status")
     (text_at (codes "latest_time") (time_text latest)
@@ -59,12 +65,12 @@ answer_members (answer.Error kind) =
     (text_at (codes "message") (error_message kind)
     (text_at (codes "type") (codes "error") no_members))
 
-abbrev pub answer_data : Answer → Data
+unfoldable pub answer_data : Answer → Data
 answer_data a = object (answer_members a)
 
--- the packet of an answer: its keys and their values as JSON with no blanks, and the zero byte that ends a packet
-unfoldable pub packet_text : Answer → List ℕ
-packet_text a = compact_text (answer_data a) ++ 0 ∷ []
+-- the packet of any data: the data as JSON with no blanks, and the zero byte that ends a packet
+unfoldable pub packet_text : Data → List ℕ
+packet_text content = compact_text content ++ 0 ∷ []
 
 -- the times in an answer are times
 abbrev pub IsNoneOrTime : Option ℕ → Type 0
@@ -73,7 +79,9 @@ IsNoneOrTime (Some time) = time ≤ largest_time
 
 abbrev pub AreTimes : Answer → Type 0
 AreTimes answer.Greeting = ⊤
+AreTimes answer.ReferenceItems = ⊤
 AreTimes answer.RunSimulation = ⊤
+AreTimes (answer.PauseSimulation time) = time ≤ largest_time
 AreTimes (answer.Status latest how next) = (latest ≤ largest_time) × IsNoneOrTime next
 AreTimes (answer.Paused why time) = time ≤ largest_time
 AreTimes (answer.Finished time) = time ≤ largest_time

@@ -60,7 +60,10 @@ greeting_text = codes "{\"commands\":[\"list_scopes\",\"list_items\",\"reference
 -- the text of an answer, piece by piece
 abbrev pub answer_text : Answer → List ℕ
 answer_text answer.Greeting = greeting_text
+answer_text answer.ReferenceItems = codes "{\"command\":\"reference_items\",\"type\":\"response\"}"
 answer_text answer.RunSimulation = codes "{\"command\":\"run_simulation\",\"type\":\"response\"}"
+answer_text (answer.PauseSimulation time) =
+    codes "{\"command\":\"pause_simulation\",\"time\":\"" ++ time_text time ++ codes "\",\"type\":\"response\"}"
 answer_text (answer.Status latest how next) =
     codes "{\"command\":\"get_simulation_status\",\"latest_time\":\"" ++ time_text latest ++ codes "\"" ++ next_text next ++ codes ",\"status\":\"" ++ state_word how ++ codes "\",\"type\":\"response\"}"
 answer_text (answer.Paused why time) =

@@ -2,13 +2,19 @@
 
 use sim_base::Time;
 
-/// One reply, event or error.
-#[derive(Clone, Copy, Debug, PartialEq, Eq)]
+/// One reply, event or error. It is lent to whoever writes it, since it may carry texts.
+#[derive(Debug, Drop, PartialEq, Eq)]
 pub enum Answer {
     /// The reply to a greeting: the commands, the events and the encoding of values.
     Greeting,
+    /// The reply to `reference_items`.
+    ReferenceItems,
     /// The reply to `run_simulation`.
     RunSimulation,
+    /// The reply to `pause_simulation`, with the time of the latest sample.
+    PauseSimulation {
+        time: Time,
+    },
     /// The reply to `get_simulation_status`: the time of the latest sample, and that of the next one, which a
     /// run that is finished lacks.
     Status {

@@ -2,7 +2,7 @@
 ghost use Rattle.std.specs.Prelude.{◌≡◌, ◌++◌, IfOk, OnOk};
 ghost use Rattle.sim_base.specs.TimeText.{time_text};
 ghost use Rattle.proto_replies.specs.declared.answer.Answer.TheVariants as answers;
-ghost use Rattle.proto_replies.specs.Data.{AreTimes, packet_text};
+ghost use Rattle.proto_replies.specs.Data.{AreTimes, answer_data, packet_text};
 ghost use Rattle.proto_replies.specs.Text.{answer_text, cause_word, error_message, error_word, next_text, state_word};
 
 use crate::answer::{Answer, Cause, ErrorKind, RunState};
@@ -16,7 +16,7 @@ const TIME_BYTES: usize = 26;
 /// seconds with 15 digits behind the dot.
 #[tactic(auto, using(crate::proofs::Plain::packet_json))]
 pub fn reply(alloc: Global, answer: &Answer) -> Result<Vec<u8>, NoMemory>
-    ensures { IfOk result (λ text. text.items ≡ packet_text answer.now) }
+    ensures { IfOk result (λ text. text.items ≡ packet_text (answer_data answer.now)) }
 {
     know_times(answer);
     let mut text = Vec::new(alloc);
@@ -29,34 +29,38 @@ pub fn reply(alloc: Global, answer: &Answer) -> Result<Vec<u8>, NoMemory>
 fn know_times(answer: &Answer)
     ensures { AreTimes answer.now }
 {
-    match *answer {
+    match answer {
         Answer::Status { latest, next, .. } => {
             let _ = latest.femtoseconds();
             if let Some(later) = next {
                 let _ = later.femtoseconds();
             }
         }
-        Answer::Paused { time, .. } | Answer::Finished { time } => {
+        Answer::PauseSimulation { time }
+        | Answer::Paused { time, .. }
+        | Answer::Finished { time } => {
             let _ = time.femtoseconds();
         }
-        Answer::Greeting | Answer::RunSimulation | Answer::Error(_) => {}
+        Answer::Greeting | Answer::ReferenceItems | Answer::RunSimulation | Answer::Error(_) => {}
     }
 }
 
 fn push_answer(text: &mut Vec<u8>, answer: &Answer) -> Result<(), NoMemory>
     ensures { OnOk result (text.new.items ≡ text.old.items ++ answer_text answer.now) }
 {
-    match *answer {
+    match answer {
         Answer::Greeting => push_greeting(text),
+        Answer::ReferenceItems => push(text, br#"{"command":"reference_items","type":"response"}"#),
         Answer::RunSimulation => push(text, br#"{"command":"run_simulation","type":"response"}"#),
+        Answer::PauseSimulation { time } => push_pause(text, *time),
         Answer::Status {
             latest,
             state,
             next,
-        } => push_status(text, latest, state, next),
-        Answer::Paused { cause, time } => push_paused(text, cause, time),
-        Answer::Finished { time } => push_finished(text, time),
-        Answer::Error(kind) => push_error(text, kind),
+        } => push_status(text, *latest, *state, *next),
+        Answer::Paused { cause, time } => push_paused(text, *cause, *time),
+        Answer::Finished { time } => push_finished(text, *time),
+        Answer::Error(kind) => push_error(text, *kind),
     }
 }
 
@@ -83,6 +87,14 @@ fn push_greeting(text: &mut Vec<u8>) -> Result<(), NoMemory>
         text,
         br#"{"commands":["list_scopes","list_items","reference_items","query_interval","get_simulation_status","run_simulation","pause_simulation"],"events":["simulation_paused","simulation_finished"],"features":{"item_values_encoding":["base64(u32)"]},"type":"greeting","version":0}"#,
     )
+}
+
+fn push_pause(text: &mut Vec<u8>, time: Time) -> Result<(), NoMemory>
+    ensures { OnOk result (text.new.items ≡ text.old.items ++ answer_text (answers.PauseSimulation time)) }
+{
+    push(text, br#"{"command":"pause_simulation","time":""#)?;
+    push_time(text, time)?;
+    push(text, br#"","type":"response"}"#)
 }
 
 fn push_status(

@@ -15,14 +15,24 @@ fn text_of(packet: &[u8]) -> Option<&[u8]> {
 fn replies_and_events_have_their_texts(rt: HostRuntime) -> Result<(), Fail> {
     let alloc = rt.alloc();
     let zero = Time::zero();
-    let rows: [(Answer, &[u8]); 11] = [
+    let rows: [(Answer, &[u8]); 13] = [
         (
             Answer::Greeting,
             br#"{"commands":["list_scopes","list_items","reference_items","query_interval","get_simulation_status","run_simulation","pause_simulation"],"events":["simulation_paused","simulation_finished"],"features":{"item_values_encoding":["base64(u32)"]},"type":"greeting","version":0}"#,
         ),
         (
+            Answer::ReferenceItems,
+            br#"{"command":"reference_items","type":"response"}"#,
+        ),
+        (
             Answer::RunSimulation,
             br#"{"command":"run_simulation","type":"response"}"#,
+        ),
+        (
+            Answer::PauseSimulation {
+                time: at(b"0.000000015"),
+            },
+            br#"{"command":"pause_simulation","time":"0.000000015000000","type":"response"}"#,
         ),
         (
             Answer::Status {
@@ -84,9 +94,9 @@ fn replies_and_events_have_their_texts(rt: HostRuntime) -> Result<(), Fail> {
             br#"{"error":"invalid_version","message":"the version is not 0","type":"error"}"#,
         ),
     ];
-    for (answer, want) in rows {
-        let packet = reply(alloc, &answer)?;
-        assert!(rt; text_of(&packet) == Some(want), "{answer:?}");
+    for (answer, want) in &rows {
+        let packet = reply(alloc, answer)?;
+        assert!(rt; text_of(&packet) == Some(*want), "{answer:?}");
     }
     Ok(())
 }
