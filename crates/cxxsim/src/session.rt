@@ -1,7 +1,8 @@
 //! A session with one client, and its log.
-ghost use Rattle.std.specs.Prelude.{◌≡◌, [], ◌≤◌, IfOk, OnErr, false};
+ghost use Rattle.std.specs.Prelude.{◌≡◌, [], ◌≤◌, IfOk, OnErr};
 ghost use Rattle.flat_run.specs.Run.{run_of};
 ghost use Rattle.hall_core.specs.Replay.{replay};
+ghost use Rattle.session_core.specs.Refusals.{new_client};
 ghost use Rattle.cxxsim.specs.Outside.{HasGot, IsQuiet};
 ghost use Rattle.cxxsim.specs.Solo.{IsHeld, IsSentAtMost, IsSessionOf};
 
@@ -30,7 +31,7 @@ fn hold<I: Source, O: Sink>(
     out: &mut O,
 ) -> Result<Ending, NoMemory>
     requires history { session.old.history ≡ [] }
-    requires greeted { session.old.greeted ≡ false }
+    requires client { session.old.client ≡ new_client }
     requires some { 1 ≤ (run_of session.old.samples).count }
     ensures held { IfOk result (λ ending. IsHeld session.old.samples (I.seen input.old) (I.seen input.new) (O.seen out.old) (O.seen out.new) session.new.history ending) }
     ensures wanting { OnErr result (IsSentAtMost session.old.samples (I.seen input.old) (I.seen input.new) (O.seen out.old) (O.seen out.new)) }

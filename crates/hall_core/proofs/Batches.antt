@@ -5,7 +5,7 @@ use Rattle.std.proofs.lemmas.Bool.{and_parts, cases_Bool, cases_lt, cond-true, c
 use Rattle.std.proofs.lemmas.Bool.Decides.{nat_tests}
 use Rattle.hall_core.specs.Batches.{greatest, hits_goal, may_record, may_stop, record_of, some_hits}
 use Rattle.hall_core.specs.Legal.{HitsAsSaid, Next, RunFacts, allowed}
-use Rattle.hall_core.specs.Replay.{State, replay}
+use Rattle.hall_core.specs.Replay.{Replayed, replay}
 use Rattle.hall_core.specs.declared.entry.Entry.{Entry}
 use Rattle.hall_core.specs.declared.entry.Entry.TheVariants as entry
 use Rattle.hall_core.specs.declared.entry.Goal.{Goal}
@@ -113,7 +113,7 @@ not_false b is = ap not is
 
 pub may_record_next : (facts : RunFacts) (history : List Entry) (m : ℕ) → may_record facts (replay history) m ≡ true → Next facts history (record_of facts (replay history) m)
 may_record_next facts history m may =
-    let s : State = replay history in
+    let s : Replayed = replay history in
     let parts = and_parts (allowed facts.count s (record_of facts s m)) (nat_le (s.n + m) facts.length && not (some_hits facts s.goal s.n (m - 1))) may in
     let more = and_parts (nat_le (s.n + m) facts.length) (not (some_hits facts s.goal s.n (m - 1))) parts.1 in
     record {
@@ -123,20 +123,20 @@ may_record_next facts history m may =
 
 pub next_may_record : (facts : RunFacts) (history : List Entry) (m : ℕ) → Next facts history (record_of facts (replay history) m) → may_record facts (replay history) m ≡ true
 next_may_record facts history m next =
-    let s : State = replay history in
+    let s : Replayed = replay history in
     and_true (allowed facts.count s (record_of facts s m)) (nat_le (s.n + m) facts.length && not (some_hits facts s.goal s.n (m - 1))) next.allows
     (and_true (nat_le (s.n + m) facts.length) (not (some_hits facts s.goal s.n (m - 1))) (of_le (s.n + m) facts.length next.meets.0)
     (not_false (some_hits facts s.goal s.n (m - 1)) (said_as_hits facts s.n m (hits_goal facts s.goal (s.n + m - 1)) s.goal next.meets.1)))
 
 pub may_stop_next : (facts : RunFacts) (history : List Entry) → may_stop facts (replay history) ≡ true → Next facts history entry.Unsettled
 may_stop_next facts history may =
-    let s : State = replay history in
+    let s : Replayed = replay history in
     let parts = and_parts (allowed facts.count s entry.Unsettled) (s.n == facts.length && nat_lt facts.length facts.count) may in
     let at = and_parts (s.n == facts.length) (nat_lt facts.length facts.count) parts.1 in
     record { allows = parts.0; meets = (eq_of s.n facts.length at.0, lt_of facts.length facts.count at.1) }
 
 pub next_may_stop : (facts : RunFacts) (history : List Entry) → Next facts history entry.Unsettled → may_stop facts (replay history) ≡ true
 next_may_stop facts history next =
-    let s : State = replay history in
+    let s : Replayed = replay history in
     and_true (allowed facts.count s entry.Unsettled) (s.n == facts.length && nat_lt facts.length facts.count) next.allows
     (and_true (s.n == facts.length) (nat_lt facts.length facts.count) (of_eq s.n facts.length next.meets.0) (of_lt facts.length facts.count next.meets.1))

@@ -8,7 +8,7 @@ use Rattle.hall_core.specs.declared.entry.Entry.TheVariants as entry
 use Rattle.hall_core.specs.declared.entry.Act.TheVariants as act
 use Rattle.hall_core.specs.declared.entry.Goal.{Goal}
 use Rattle.hall_core.specs.declared.entry.Goal.TheVariants as goal
-use Rattle.hall_core.specs.Replay.{State, after, replay, runs_on, reaches, reaches_there, reached}
+use Rattle.hall_core.specs.Replay.{Replayed, after, replay, runs_on, reaches, reaches_there, reached}
 use Rattle.hall_core.specs.Legal.{RunFacts, Next, Follows, Legal}
 use Rattle.hall_core.specs.Laws.{BeginsWithSample, IsUnsettledAtOnce}
 use Rattle.hall_core.proofs.Progress.{replay-push, false-true, and-first}
@@ -64,7 +64,7 @@ record_held : (b : Bool) (g : Goal) → b ≡ true → cond b goal.Hold g ≡ go
 record_held true g h = refl
 record_held false g h = absurd (false-true h)
 
-held_after : (s : State) (e : Entry) → reaches s e ≡ true → (after s e).goal ≡ goal.Hold
+held_after : (s : Replayed) (e : Entry) → reaches s e ≡ true → (after s e).goal ≡ goal.Hold
 held_after s (entry.Open c) h = absurd (false-true h)
 held_after s (entry.Packet c act.Look) h = absurd (false-true h)
 held_after s (entry.Packet c (act.Run m kinds)) h = run_held (runs_on s m) _ h

@@ -9,7 +9,7 @@ use Rattle.hall_core.specs.declared.entry.Entry.{Entry}
 use Rattle.hall_core.specs.declared.entry.Entry.TheVariants as entry
 use Rattle.hall_core.specs.declared.entry.Act.TheVariants as act
 use Rattle.hall_core.specs.declared.entry.Why.{Why}
-use Rattle.hall_core.specs.Replay.{State, after, replay}
+use Rattle.hall_core.specs.Replay.{Replayed, after, replay}
 use Rattle.hall_core.specs.Legal.{RunFacts, allowed, is_over, is_open, is_true, Legal}
 use Rattle.hall_core.specs.Laws.{Taken, none, one_more, opens, closes, is_there}
 use Rattle.hall_core.proofs.Histories.{taken_legal}
@@ -131,10 +131,10 @@ picked : (b x y : Bool) → cond b false x ≡ true → x ≡ true
 picked true x y h = absurd (false-true h)
 picked false x y h = h
 
-next_open : (count : ℕ) (s : State) (d : ℕ) → allowed count s (entry.Open d) ≡ true → d ≡ length s.clients
+next_open : (count : ℕ) (s : Replayed) (d : ℕ) → allowed count s (entry.Open d) ≡ true → d ≡ length s.clients
 next_open count s d h = equal d (length s.clients) (picked (s.n == 0) _ true (and-second (not (is_over s.goal)) _ h))
 
-next_close : (count : ℕ) (s : State) (d : ℕ) (why : Why) → allowed count s (entry.Close d why) ≡ true → is_open s d ≡ true
+next_close : (count : ℕ) (s : Replayed) (d : ℕ) (why : Why) → allowed count s (entry.Close d why) ≡ true → is_open s d ≡ true
 next_close count s d why h = picked (s.n == 0) _ true (and-second (not (is_over s.goal)) _ h)
 
 parts : (history : List Entry) (e : Entry) → IsKept (λ c. list_any (opens c) history || list_any (opens c) (e ∷ [])) (λ c. list_any (closes c) history || list_any (closes c) (e ∷ [])) (after (replay history) e).clients → Keeps (history ++ e ∷ [])

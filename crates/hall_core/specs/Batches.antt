@@ -1,7 +1,7 @@
 -- How many samples may be recorded next.
 use Rattle.std.specs.Prelude.{ℕ, zero, suc, ◌+◌, ◌-◌, ◌==◌, Bool, false, not, ◌&&◌, ◌||◌, nat_le, nat_lt, if◌then◌else◌}
 use Rattle.hall_core.specs.Legal.{RunFacts, allowed}
-use Rattle.hall_core.specs.Replay.{State}
+use Rattle.hall_core.specs.Replay.{Replayed}
 use Rattle.hall_core.specs.declared.entry.Entry.{Entry}
 use Rattle.hall_core.specs.declared.entry.Entry.TheVariants as entry
 use Rattle.hall_core.specs.declared.entry.Goal.{Goal}
@@ -19,15 +19,15 @@ some_hits facts g k zero = false
 some_hits facts g k (suc m) = hits_goal facts g k || some_hits facts g (suc k) m
 
 -- the record of the next m samples
-abbrev pub record_of : RunFacts → State → ℕ → Entry
+abbrev pub record_of : RunFacts → Replayed → ℕ → Entry
 record_of facts s m = entry.Record m (hits_goal facts s.goal (s.n + m - 1))
 
 -- the next m samples may be recorded: the goal asks for them, they settle, and none but the last one hits
-abbrev pub may_record : RunFacts → State → ℕ → Bool
+abbrev pub may_record : RunFacts → Replayed → ℕ → Bool
 may_record facts s m = allowed facts.count s (record_of facts s m) && (nat_le (s.n + m) facts.length && not (some_hits facts s.goal s.n (m - 1)))
 
 -- the next sample is asked for and does not settle
-abbrev pub may_stop : RunFacts → State → Bool
+abbrev pub may_stop : RunFacts → Replayed → Bool
 may_stop facts s = allowed facts.count s entry.Unsettled && (s.n == facts.length && nat_lt facts.length facts.count)
 
 -- the greatest number up to this one that passes a test; 0 where none above 0 does
@@ -36,5 +36,5 @@ greatest test zero = 0
 greatest test (suc n) = if test (suc n) then suc n else greatest test n
 
 -- the most samples, of batches of this size, that may be recorded next
-abbrev pub most_recorded : ℕ → RunFacts → State → ℕ
+abbrev pub most_recorded : ℕ → RunFacts → Replayed → ℕ
 most_recorded size facts s = greatest (may_record facts s) size

@@ -2,8 +2,8 @@
 use Rattle.std.specs.Prelude.{ℕ, ◌-◌, List, min, vec_len, vec_capacity}
 use Rattle.hall_core.specs.declared.entry.Entry.{Entry}
 use Rattle.hall_core.specs.declared.history.History.{History}
-use Rattle.hall_core.specs.declared.standing.Standing.{Standing}
-use Rattle.hall_core.specs.Replay.{State}
+use Rattle.hall_core.specs.declared.replaying.Replaying.{Replaying}
+use Rattle.hall_core.specs.Replay.{Replayed}
 
 abbrev pub entries : History → List Entry
 entries history = history.list.items
@@ -15,14 +15,14 @@ pub record Seen : Type 0 where
   -- so many steps take no memory
   pub spare : ℕ
 
--- the state that stands in memory
-abbrev pub state : Standing → State
-state s = record { n = s.n; goal = s.goal; unsettled = s.unsettled; clients = s.clients.items }
+-- what it says so far, of what is kept of it in memory
+abbrev pub replayed : Replaying → Replayed
+replayed s = record { n = s.n; goal = s.goal; unsettled = s.unsettled; clients = s.clients.items }
 
 -- so many clients can be opened without memory
-abbrev pub room : Standing → ℕ
+abbrev pub room : Replaying → ℕ
 room s = vec_capacity s.clients - vec_len s.clients
 
 -- so many entries can be added without memory
-abbrev pub spare : History → Standing → ℕ
+abbrev pub spare : History → Replaying → ℕ
 spare history s = min (vec_capacity history.list - vec_len history.list) (room s)

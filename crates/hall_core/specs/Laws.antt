@@ -6,7 +6,7 @@ use Rattle.hall_core.specs.declared.entry.Entry.TheVariants as entry
 use Rattle.hall_core.specs.declared.entry.Act.{Act}
 use Rattle.hall_core.specs.declared.entry.Act.TheVariants as act
 use Rattle.hall_core.specs.Legal.{RunFacts, Next}
-use Rattle.hall_core.specs.Replay.{State}
+use Rattle.hall_core.specs.Replay.{Replayed}
 
 -- the histories that steps from the empty one lead to, of which each adds an entry that may come next
 pub data Taken (run : RunFacts) : List Entry → Type 0 where
@@ -93,5 +93,5 @@ abbrev pub opened : List Entry → ℕ
 opened history = count_by is_opening history
 
 -- a goal is not reached yet, there are so many samples, and none was found not to settle
-abbrev pub LiesAhead : RunFacts → State → ℕ → Type 0
+abbrev pub LiesAhead : RunFacts → Replayed → ℕ → Type 0
 LiesAhead run s g = (s.n < g) × (g ≤ run.count) × (s.unsettled ≡ false)

@@ -8,7 +8,7 @@ use Rattle.hall_core.specs.declared.entry.Act.{Act}
 use Rattle.hall_core.specs.declared.entry.Act.TheVariants as act
 use Rattle.hall_core.specs.declared.entry.Goal.{Goal}
 use Rattle.hall_core.specs.declared.entry.Goal.TheVariants as goal
-use Rattle.hall_core.specs.Replay.{State, replay}
+use Rattle.hall_core.specs.Replay.{Replayed, replay}
 
 -- What the rules ask of a run. A crate above says what these are of a circuit under its samples.
 pub record RunFacts : Type 0 where
@@ -23,10 +23,10 @@ abbrev pub is_true : Option Bool → Bool
 is_true None = false
 is_true (Some b) = b
 
-abbrev pub is_open : State → ℕ → Bool
+abbrev pub is_open : Replayed → ℕ → Bool
 is_open s c = is_true (slice_get s.clients c)
 
-abbrev pub some_open : State → Bool
+abbrev pub some_open : Replayed → Bool
 some_open s = list_any (λ one. one) s.clients
 
 -- a run is asked for at most all samples
@@ -48,7 +48,7 @@ is_over (goal.To g kinds) = false
 is_over goal.Over = true
 
 -- A history begins with the record of sample 0, or is Unsettled, behind which only the end comes.
-abbrev pub may_begin : State → Entry → Bool
+abbrev pub may_begin : Replayed → Entry → Bool
 may_begin s (entry.Open c) = false
 may_begin s (entry.Packet c what) = false
 may_begin s (entry.Record m hit) = m == 1 && not hit && not s.unsettled
@@ -57,7 +57,7 @@ may_begin s (entry.Close c why) = false
 may_begin s entry.End = s.unsettled
 
 -- What may follow where sample 0 is recorded.
-abbrev pub may_follow : ℕ → State → Entry → Bool
+abbrev pub may_follow : ℕ → Replayed → Entry → Bool
 may_follow count s (entry.Open c) = c == length s.clients
 may_follow count s (entry.Packet c what) = is_open s c && may_act count what
 may_follow count s (entry.Record m hit) = nat_le 1 m && lets s.goal (s.n + m) && not s.unsettled
@@ -66,7 +66,7 @@ may_follow count s (entry.Close c why) = is_open s c
 may_follow count s entry.End = not (some_open s)
 
 -- whether an entry may come next in a run of so many samples, where what its samples are is left aside
-abbrev pub allowed : ℕ → State → Entry → Bool
+abbrev pub allowed : ℕ → Replayed → Entry → Bool
 allowed count s e = not (is_over s.goal) && (if s.n == 0 then may_begin s e else may_follow count s e)
 
 -- no sample but the last one of a record hits the goal's kinds, and the flag says whether the last one does
@@ -78,7 +78,7 @@ HitsAsSaid run n m hit (goal.To g kinds) =
 HitsAsSaid run n m hit goal.Over = Unit {0}
 
 -- an entry fits the run's samples: what is recorded settles, and Unsettled comes at a sample that does not
-abbrev pub Meets : RunFacts → State → Entry → Type 0
+abbrev pub Meets : RunFacts → Replayed → Entry → Type 0
 Meets run s (entry.Open c) = Unit {0}
 Meets run s (entry.Packet c what) = Unit {0}
 Meets run s (entry.Record m hit) = (s.n + m ≤ run.length) × HitsAsSaid run s.n m hit s.goal

@@ -5,7 +5,7 @@ use Rattle.hall_core.specs.declared.entry.Entry.TheVariants as entry
 use Rattle.hall_core.specs.declared.entry.Act.TheVariants as act
 use Rattle.hall_core.specs.declared.entry.Goal.{Goal}
 use Rattle.hall_core.specs.declared.entry.Goal.TheVariants as goal
-use Rattle.hall_core.specs.Replay.{State, is_goal}
+use Rattle.hall_core.specs.Replay.{Replayed, is_goal}
 
 -- how many samples are recorded, how far they are to be, and whether the next one was found not to settle
 pub record Moment : Type 0 where
@@ -13,7 +13,7 @@ pub record Moment : Type 0 where
   pub goal : Goal
   pub unsettled : Bool
 
-abbrev pub moment_of : State → Moment
+abbrev pub moment_of : Replayed → Moment
 moment_of s = record { n = s.n; goal = s.goal; unsettled = s.unsettled }
 
 -- the goal after a run up to so many samples is asked for

@@ -6,8 +6,8 @@ use Rattle.hall_core.specs.declared.entry.Act.TheVariants as act
 use Rattle.hall_core.specs.declared.entry.Goal.{Goal}
 use Rattle.hall_core.specs.declared.entry.Goal.TheVariants as goal
 
--- what stands after some entries
-pub record State : Type 0 where
+-- what some entries say
+pub record Replayed : Type 0 where
   -- the number of samples recorded
   pub n : ℕ
   pub goal : Goal
@@ -16,11 +16,12 @@ pub record State : Type 0 where
   -- one for each client opened, in the order of their numbers: whether it is open
   pub clients : List Bool
 
-abbrev pub start : State
-start = record { n = 0; goal = goal.Hold; unsettled = false; clients = [] }
+-- what no entries say
+abbrev pub unbegun : Replayed
+unbegun = record { n = 0; goal = goal.Hold; unsettled = false; clients = [] }
 
 -- a run up to m samples has something to do
-abbrev pub runs_on : State → ℕ → Bool
+abbrev pub runs_on : Replayed → ℕ → Bool
 runs_on s m = nat_lt s.n m && not s.unsettled
 
 abbrev pub is_goal : Goal → ℕ → Bool
@@ -29,7 +30,7 @@ is_goal (goal.To g kinds) n = n == g
 is_goal goal.Over n = false
 
 -- whether the entry reaches a goal, or is Unsettled
-abbrev pub reaches : State → Entry → Bool
+abbrev pub reaches : Replayed → Entry → Bool
 reaches s (entry.Open c) = false
 reaches s (entry.Packet c act.Look) = false
 reaches s (entry.Packet c (act.Run m kinds)) = not (runs_on s m)
@@ -40,7 +41,7 @@ reaches s (entry.Close c why) = false
 reaches s entry.End = false
 
 -- what stands after one entry more
-abbrev pub after : State → Entry → State
+abbrev pub after : Replayed → Entry → Replayed
 after s (entry.Open c) = record s { clients = s.clients ++ true ∷ [] }
 after s (entry.Packet c act.Look) = s
 after s (entry.Packet c (act.Run m kinds)) = record s { goal = if runs_on s m then goal.To m kinds else goal.Hold }
@@ -51,10 +52,10 @@ after s (entry.Close c why) = record s { clients = slice_set s.clients c false }
 after s entry.End = record s { goal = goal.Over }
 
 -- what stands after all entries of a history
-abbrev pub replay : List Entry → State
-replay history = fold after start history
+abbrev pub replay : List Entry → Replayed
+replay history = fold after unbegun history
 
-abbrev pub reaches_there : State → Option Entry → Bool
+abbrev pub reaches_there : Replayed → Option Entry → Bool
 reaches_there s None = false
 reaches_there s (Some e) = reaches s e
 

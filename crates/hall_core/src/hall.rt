@@ -6,7 +6,7 @@ ghost use Rattle.hall_core.specs.Legal.{RunFacts, Legal, Meets, allowed};
 
 use crate::entry::{Entry, Goal};
 use crate::history::History;
-use crate::standing::Standing;
+use crate::replaying::Replaying;
 use sim_base::NoMemory;
 use std::alloc::Global;
 use std::marker::Model;
@@ -17,19 +17,19 @@ use std::marker::Model;
 pub struct Hall {
     count: u64,
     history: History,
-    standing: Standing,
+    replaying: Replaying,
 }
 
 impl Model for Hall {
     ghost use Rattle.std.specs.Prelude.{◌≡◌};
-    ghost use Rattle.hall_core.specs.Hall.{Seen, entries, spare, state};
+    ghost use Rattle.hall_core.specs.Hall.{Seen, entries, spare, replayed};
     ghost use Rattle.hall_core.specs.Replay.{replay};
 
     ghost Value = { Seen };
 
-    ghost view = { λ h. record { count = h.count; history = entries h.history; spare = spare h.history h.standing } };
+    ghost view = { λ h. record { count = h.count; history = entries h.history; spare = spare h.history h.replaying } };
 
-    ghost invariant = { λ h. state h.standing ≡ replay (entries h.history) };
+    ghost invariant = { λ h. replayed h.replaying ≡ replay (entries h.history) };
 }
 
 impl Hall {
@@ -40,7 +40,7 @@ impl Hall {
         Ok(Hall {
             count,
             history: History::new(Vec::new(alloc)),
-            standing: Standing::new(alloc),
+            replaying: Replaying::new(alloc),
         })
     }
 
@@ -48,7 +48,7 @@ impl Hall {
     pub fn allows(&self, entry: Entry) -> bool
         ensures { result ≡ allowed self.now.count (replay self.now.history) entry }
     {
-        self.standing.allows(self.count, entry)
+        self.replaying.allows(self.count, entry)
     }
 
     /// Adds an entry that may come next.
@@ -65,9 +65,9 @@ impl Hall {
         ensures refused { OnErr result (self.new ≡ self.old) }
     {
         self.history.list.reserve(1)?;
-        self.standing.clients.reserve(1)?;
+        self.replaying.clients.reserve(1)?;
         self.history.list.push(entry).unwrap();
-        self.standing.take_in(self.count, entry);
+        self.replaying.take_in(self.count, entry);
         Ok(())
     }
 
@@ -79,7 +79,7 @@ impl Hall {
         ensures same_run { self.new.count ≡ self.old.count }
     {
         self.history.list.reserve(more as usize)?;
-        self.standing.clients.reserve(more as usize)?;
+        self.replaying.clients.reserve(more as usize)?;
         Ok(())
     }
 
@@ -87,14 +87,14 @@ impl Hall {
     pub fn goal(&self) -> Goal
         ensures { result ≡ (replay self.now.history).goal }
     {
-        self.standing.goal
+        self.replaying.goal
     }
 
     /// The number of samples recorded.
     pub fn n(&self) -> u64
         ensures { result ≡ (replay self.now.history).n }
     {
-        self.standing.n
+        self.replaying.n
     }
 
     pub fn history(&self) -> &History

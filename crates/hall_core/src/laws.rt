@@ -13,7 +13,7 @@ ghost use Rattle.hall_core.specs.Moments.{moment_of, step};
 ghost use Rattle.hall_core.specs.Laws.{AllSmall, BeginsWithSample, IsUnsettledAtOnce, LiesAhead, Taken, is_recording, is_run, is_there, opened};
 ghost use Rattle.hall_core.specs.Legal.{Legal, Next, RunFacts, allowed, is_open};
 ghost use Rattle.hall_core.specs.LogText.{log_text};
-ghost use Rattle.hall_core.specs.Replay.{State, reached, replay};
+ghost use Rattle.hall_core.specs.Replay.{Replayed, reached, replay};
 
 /// Every beginning of a legal history is legal, but for the empty one.
 #[tactic(auto, using(crate::proofs::Histories::legal_beginning))]
@@ -112,9 +112,9 @@ pub fn law_of_records()
 /// The most samples of a batch may be recorded, where it is not 0, and no greater number up to the batch's size may.
 #[tactic(auto, using(crate::proofs::Batches::greatest_passes, crate::proofs::Batches::greatest_most, crate::proofs::Batches::greatest_within))]
 pub fn law_of_batches()
-    ensures may { (run : RunFacts) → (s : State) → (size : ℕ) → 0 < most_recorded size run s
+    ensures may { (run : RunFacts) → (s : Replayed) → (size : ℕ) → 0 < most_recorded size run s
         → may_record run s (most_recorded size run s) ≡ true }
-    ensures most { (run : RunFacts) → (s : State) → (size m : ℕ) → m ≤ size → may_record run s m ≡ true
+    ensures most { (run : RunFacts) → (s : Replayed) → (size m : ℕ) → m ≤ size → may_record run s m ≡ true
         → m ≤ most_recorded size run s }
-    ensures within { (run : RunFacts) → (s : State) → (size : ℕ) → most_recorded size run s ≤ size }
+    ensures within { (run : RunFacts) → (s : Replayed) → (size : ℕ) → most_recorded size run s ≤ size }
 {}

@@ -7,7 +7,7 @@ mod hall;
 mod history;
 mod laws;
 mod log;
-mod standing;
+mod replaying;
 
 pub use entry::{Act, Entry, Goal, Why};
 pub use followed::Followed;

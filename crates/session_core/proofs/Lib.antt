@@ -3,3 +3,4 @@ pub mod Agreeing
 pub mod Isolated
 pub mod Opened
 pub mod Greeting
+pub mod Recorded

@@ -8,7 +8,7 @@ use Rattle.circuit.specs.Rounds.{Run}
 use Rattle.hall_core.specs.Facts.{facts_of}
 use Rattle.hall_core.specs.Laws.{Taken, is_opening, none, one_more, opened}
 use Rattle.hall_core.specs.Legal.{Legal, allowed, is_open, is_over, is_true, may_act}
-use Rattle.hall_core.specs.Replay.{State, reaches, replay}
+use Rattle.hall_core.specs.Replay.{Replayed, reaches, replay}
 use Rattle.hall_core.specs.declared.entry.Entry.{Entry}
 use Rattle.hall_core.specs.declared.entry.Entry.TheVariants as entry
 use Rattle.hall_core.proofs.Ahead.{clients_opened, opens_next}
@@ -65,7 +65,7 @@ nothing_answered run packets c before (entry.Close d why) le may =
     (λ is. false≢true (sym (not_open before c le) ∙ ap (λ z. is_open (replay before) z) (same c d is) ∙ close_there (not (is_over (replay before).goal)) ((replay before).n == 0) (is_open (replay before) d) may))
 nothing_answered run packets c before entry.End le may = refl
 
-no_event : (run : Run) (l : Bool) (s : State) (e : Entry) → l ≡ false → event run l s e ≡ []
+no_event : (run : Run) (l : Bool) (s : Replayed) (e : Entry) → l ≡ false → event run l s e ≡ []
 no_event run l s e deaf = ap (λ z. event run z s e) deaf ∙ deaf_to (reaches s e) _
   where
     deaf_to : (b : Bool) (xs : List ℕ) → (if b && false then xs else []) ≡ []
@@ -73,7 +73,7 @@ no_event run l s e deaf = ap (λ z. event run z s e) deaf ∙ deaf_to (reaches s
     deaf_to false xs = refl
 
 deaf : (packets : List (List ℕ)) (c : ℕ) (before : List Entry) (e : Entry) → opened (before ++ e ∷ []) ≤ c → listens packets c before e ≡ false
-deaf packets c before e le = ap (λ b. b && is_greeted (take (packets_in c (before ++ e ∷ [])) packets)) (sym (ap (λ (s : State). is_open s c) (replay-push before e)) ∙ not_open (before ++ e ∷ []) c le)
+deaf packets c before e le = ap (λ b. b && is_greeted (take (packets_in c (before ++ e ∷ [])) packets)) (sym (ap (λ (s : Replayed). is_open s c) (replay-push before e)) ∙ not_open (before ++ e ∷ []) c le)
 
 both_nothing : (xs ys zs : List ℕ) → xs ≡ [] → ys ≡ [] → zs ≡ [] → xs ++ (ys ++ zs) ≡ []
 both_nothing xs ys zs p q r = ap (λ x. x ++ (ys ++ zs)) p ∙ ap (λ y. y ++ zs) q ∙ r

@@ -9,7 +9,7 @@ use Rattle.std.proofs.lemmas.List.Sums.{fold_push, sum_by-append}
 use Rattle.circuit.specs.Rounds.{Run}
 use Rattle.hall_core.specs.Laws.{is_recording}
 use Rattle.hall_core.specs.Legal.{is_open}
-use Rattle.hall_core.specs.Replay.{State, after, replay}
+use Rattle.hall_core.specs.Replay.{Replayed, after, replay}
 use Rattle.hall_core.specs.declared.entry.Act.{Act}
 use Rattle.hall_core.specs.declared.entry.Act.TheVariants as act
 use Rattle.hall_core.specs.declared.entry.Entry.{Entry}
@@ -140,12 +140,12 @@ said_more run earlier more c h low = said_behind-more run earlier more c [] h lo
 
 -- ---- a packet
 
-open-packet : (s : State) (what : Act) → is_open (after s (entry.Packet 0 what)) 0 ≡ is_open s 0
+open-packet : (s : Replayed) (what : Act) → is_open (after s (entry.Packet 0 what)) 0 ≡ is_open s 0
 open-packet s act.Look = refl
 open-packet s (act.Run m kinds) = refl
 open-packet s act.Pause = refl
 
-open-recording : (s : State) (e : Entry) → is_recording e ≡ true → is_open (after s e) 0 ≡ is_open s 0
+open-recording : (s : Replayed) (e : Entry) → is_recording e ≡ true → is_open (after s e) 0 ≡ is_open s 0
 open-recording s (entry.Open d) h = absurd (false≢true h)
 open-recording s (entry.Packet d what) h = absurd (false≢true h)
 open-recording s (entry.Record m hit) h = refl
@@ -159,19 +159,19 @@ listens-open packets before e is_there all =
     ap (λ z. z && is_greeted (take (packets_in 0 (before ++ e ∷ [])) packets)) is_there
     ∙ ap is_greeted (ap (λ z. take z packets) all ∙ take-length packets)
 
-reply_at-last : (run : Run) (m : Moment) (earlier : List (List ℕ)) (p : List ℕ) (j : ℕ) → j ≡ length earlier → reply_at run m (earlier ++ p ∷ []) j ≡ packet_text (answer_in run (is_greeted earlier) m (asked p))
+reply_at-last : (run : Run) (m : Moment) (earlier : List (List ℕ)) (p : List ℕ) (j : ℕ) → j ≡ length earlier → reply_at run m (earlier ++ p ∷ []) j ≡ packet_text (answer_in run (client_of earlier) m (asked p))
 reply_at-last run m earlier p j is_last =
     ap (λ z. reply_at run m (earlier ++ p ∷ []) z) is_last
     ∙ ap (λ z. reply_to run m z (slice_get (earlier ++ p ∷ []) (length earlier))) (take-append_seam earlier (p ∷ []))
     ∙ ap (λ z. reply_to run m earlier z) (slice_get-last earlier p)
 
-pub given_by_packet : (run : Run) (earlier : List (List ℕ)) (p : List ℕ) (h : List Entry) (what : Act) → is_open (replay h) 0 ≡ true → packets_in 0 h ≡ length earlier → given_by run (earlier ++ p ∷ []) 0 h (entry.Packet 0 what) ≡ packet_text (answer_in run (is_greeted earlier) (moment_of (after (replay h) (entry.Packet 0 what))) (asked p)) ++ event run (is_greeted (earlier ++ p ∷ [])) (replay h) (entry.Packet 0 what)
+pub given_by_packet : (run : Run) (earlier : List (List ℕ)) (p : List ℕ) (h : List Entry) (what : Act) → is_open (replay h) 0 ≡ true → packets_in 0 h ≡ length earlier → given_by run (earlier ++ p ∷ []) 0 h (entry.Packet 0 what) ≡ packet_text (answer_in run (client_of earlier) (moment_of (after (replay h) (entry.Packet 0 what))) (asked p)) ++ event run (is_greeted (earlier ++ p ∷ [])) (replay h) (entry.Packet 0 what)
 given_by_packet run earlier p h what is_there all =
     let count : packets_in 0 (h ++ entry.Packet 0 what ∷ []) ≡ length (earlier ++ p ∷ []) = omega (arith, all, packets_in_push_packet h what, length_push earlier p) in
     ap (λ z. z ++ event run (listens (earlier ++ p ∷ []) 0 h (entry.Packet 0 what)) (replay h) (entry.Packet 0 what)) (reply_at-last run (moment_of (after (replay h) (entry.Packet 0 what))) earlier p (packets_in 0 h) all)
-    ∙ ap (λ z. packet_text (answer_in run (is_greeted earlier) (moment_of (after (replay h) (entry.Packet 0 what))) (asked p)) ++ event run z (replay h) (entry.Packet 0 what)) (listens-open (earlier ++ p ∷ []) h (entry.Packet 0 what) (open-packet (replay h) what ∙ is_there) count)
+    ∙ ap (λ z. packet_text (answer_in run (client_of earlier) (moment_of (after (replay h) (entry.Packet 0 what))) (asked p)) ++ event run z (replay h) (entry.Packet 0 what)) (listens-open (earlier ++ p ∷ []) h (entry.Packet 0 what) (open-packet (replay h) what ∙ is_there) count)
 
-pub said_packet : (run : Run) (earlier : List (List ℕ)) (p : List ℕ) (h : List Entry) (what : Act) → is_open (replay h) 0 ≡ true → packets_in 0 h ≡ length earlier → said run (earlier ++ p ∷ []) 0 (h ++ entry.Packet 0 what ∷ []) ≡ said run earlier 0 h ++ (packet_text (answer_in run (is_greeted earlier) (moment_of (after (replay h) (entry.Packet 0 what))) (asked p)) ++ event run (is_greeted (earlier ++ p ∷ [])) (replay h) (entry.Packet 0 what))
+pub said_packet : (run : Run) (earlier : List (List ℕ)) (p : List ℕ) (h : List Entry) (what : Act) → is_open (replay h) 0 ≡ true → packets_in 0 h ≡ length earlier → said run (earlier ++ p ∷ []) 0 (h ++ entry.Packet 0 what ∷ []) ≡ said run earlier 0 h ++ (packet_text (answer_in run (client_of earlier) (moment_of (after (replay h) (entry.Packet 0 what))) (asked p)) ++ event run (is_greeted (earlier ++ p ∷ [])) (replay h) (entry.Packet 0 what))
 said_packet run earlier p h what is_there all =
     said_push run (earlier ++ p ∷ []) 0 h (entry.Packet 0 what)
     ∙ ap (λ z. z ++ given_by run (earlier ++ p ∷ []) 0 h (entry.Packet 0 what)) (said_more run earlier (p ∷ []) 0 h (omega (arith, all)))

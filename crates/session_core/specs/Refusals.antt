@@ -46,26 +46,26 @@ abbrev pub is_greeted : List (List ℕ) → Bool
 is_greeted packets = (client_of packets).greeted
 
 -- the error of a command that asks for a greeting before it
-abbrev pub unless_greeted : Bool → Option ErrorKind
-unless_greeted greeted = if greeted then None else Some error.NotGreeted
+abbrev pub unless_greeted : Client → Option ErrorKind
+unless_greeted client = if client.greeted then None else Some error.NotGreeted
 
--- the first error that holds for a packet, of a client that was greeted before it or not; want of memory is none
-abbrev pub error_of : Bool → Asking → Option ErrorKind
-error_of greeted (Err fault.Json) = Some error.InvalidJson
-error_of greeted (Err fault.Packet) = Some error.InvalidPacket
-error_of greeted (Err fault.Command) = Some error.InvalidCommand
-error_of greeted (Err fault.Argument) = Some error.InvalidArgument
-error_of greeted (Err fault.NoMemory) = None
-error_of greeted (Ok (request.Greeting version)) = if greeted then Some error.AlreadyGreeted else (if version == 0 then None else Some error.InvalidVersion)
-error_of greeted (Ok request.Status) = unless_greeted greeted
-error_of greeted (Ok (request.RunSimulation until kinds)) = unless_greeted greeted
+-- the first error that holds for a packet of a client, by what its earlier packets made of it; want of memory is none
+abbrev pub error_of : Client → Asking → Option ErrorKind
+error_of client (Err fault.Json) = Some error.InvalidJson
+error_of client (Err fault.Packet) = Some error.InvalidPacket
+error_of client (Err fault.Command) = Some error.InvalidCommand
+error_of client (Err fault.Argument) = Some error.InvalidArgument
+error_of client (Err fault.NoMemory) = None
+error_of client (Ok (request.Greeting version)) = if client.greeted then Some error.AlreadyGreeted else (if version == 0 then None else Some error.InvalidVersion)
+error_of client (Ok request.Status) = unless_greeted client
+error_of client (Ok (request.RunSimulation until kinds)) = unless_greeted client
 -- commands that are not served yet
-error_of greeted (Ok (request.ListScopes scope)) = Some error.InvalidCommand
-error_of greeted (Ok (request.ListItems scope)) = Some error.InvalidCommand
-error_of greeted (Ok (request.ReferenceItems reference items)) = Some error.InvalidCommand
-error_of greeted (Ok (request.QueryInterval begin end items encoding collapse diagnostics)) = Some error.InvalidCommand
-error_of greeted (Ok request.PauseSimulation) = Some error.InvalidCommand
+error_of client (Ok (request.ListScopes scope)) = Some error.InvalidCommand
+error_of client (Ok (request.ListItems scope)) = Some error.InvalidCommand
+error_of client (Ok (request.ReferenceItems reference items)) = Some error.InvalidCommand
+error_of client (Ok (request.QueryInterval begin end items encoding collapse diagnostics)) = Some error.InvalidCommand
+error_of client (Ok request.PauseSimulation) = Some error.InvalidCommand
 
 -- the error for which a packet behind a client's earlier packets is refused
 abbrev pub refused : List (List ℕ) → List ℕ → Option ErrorKind
-refused earlier packet = error_of (is_greeted earlier) (asked packet)
+refused earlier packet = error_of (client_of earlier) (asked packet)

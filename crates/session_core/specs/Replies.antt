@@ -2,8 +2,9 @@
 use Rattle.std.specs.Prelude.{ℕ, ◌-◌, ◌==◌, List, [], ◌∷◌, ◌++◌, Bool, true, false, ◌&&◌, ◌||◌, Option, Some, None, Ok, Err, if◌then◌else◌}
 use Rattle.circuit.specs.Rounds.{Run}
 use Rattle.hall_core.specs.Samples.{samples_until}
+use Rattle.serde_json.specs.Data.{Data}
 use Rattle.hall_core.specs.Moments.{Moment, moment_of}
-use Rattle.hall_core.specs.Replay.{State, after, reaches}
+use Rattle.hall_core.specs.Replay.{Replayed, after, reaches}
 use Rattle.hall_core.specs.declared.entry.Act.{Act}
 use Rattle.hall_core.specs.declared.entry.Act.TheVariants as act
 use Rattle.hall_core.specs.declared.entry.Entry.{Entry}
@@ -12,7 +13,7 @@ use Rattle.hall_core.specs.declared.entry.Goal.{Goal}
 use Rattle.hall_core.specs.declared.entry.Goal.TheVariants as goal
 use Rattle.proto_packets.specs.Asked.{asked}
 use Rattle.proto_packets.specs.declared.request.Request.TheVariants as request
-use Rattle.proto_replies.specs.Data.{packet_text}
+use Rattle.proto_replies.specs.Data.{answer_data, packet_text}
 use Rattle.proto_replies.specs.declared.answer.Answer.{Answer}
 use Rattle.proto_replies.specs.declared.answer.Answer.TheVariants as answer
 use Rattle.proto_replies.specs.declared.answer.Cause.{Cause}
@@ -21,7 +22,7 @@ use Rattle.proto_replies.specs.declared.answer.ErrorKind.{ErrorKind}
 use Rattle.proto_replies.specs.declared.answer.ErrorKind.TheVariants as error
 use Rattle.proto_replies.specs.declared.answer.RunState.{RunState}
 use Rattle.proto_replies.specs.declared.answer.RunState.TheVariants as state
-use Rattle.session_core.specs.Refusals.{Asking, error_of, is_greeted, refused}
+use Rattle.session_core.specs.Refusals.{Asking, Client, client_of, error_of}
 
 -- ---- what a packet does
 
@@ -46,13 +47,13 @@ abbrev pub act_unless : Option ErrorKind → Act → Act
 act_unless (Some e) what = act.Look
 act_unless None what = what
 
--- what a packet does, of a client that was greeted before it or not
-abbrev pub act_in : Run → Bool → Asking → Act
-act_in run greeted read = act_unless (error_of greeted read) (act_asked run read)
+-- what a packet of a client does
+abbrev pub act_in : Run → Client → Asking → Act
+act_in run client read = act_unless (error_of client read) (act_asked run read)
 
 -- what a packet behind a client's earlier packets does
 abbrev pub act_of : Run → List (List ℕ) → List ℕ → Act
-act_of run earlier packet = act_in run (is_greeted earlier) (asked packet)
+act_of run earlier packet = act_in run (client_of earlier) (asked packet)
 
 -- ---- replies
 
@@ -81,29 +82,29 @@ next_time run n state.Finished = None
 abbrev pub status : Run → Moment → Answer
 status run m = answer.Status (time_of run (m.n - 1)) (state_of run m) (next_time run m.n (state_of run m))
 
--- the reply to a request that is not refused; the others are refused always
-abbrev pub answer_to : Run → Moment → Asking → Answer
-answer_to run m (Ok (request.Greeting version)) = answer.Greeting
-answer_to run m (Ok request.Status) = status run m
-answer_to run m (Ok (request.RunSimulation until kinds)) = answer.RunSimulation
-answer_to run m (Ok (request.ListScopes scope)) = answer.Error error.InvalidCommand
-answer_to run m (Ok (request.ListItems scope)) = answer.Error error.InvalidCommand
-answer_to run m (Ok (request.ReferenceItems reference items)) = answer.Error error.InvalidCommand
-answer_to run m (Ok (request.QueryInterval begin end items encoding collapse diagnostics)) = answer.Error error.InvalidCommand
-answer_to run m (Ok request.PauseSimulation) = answer.Error error.InvalidCommand
-answer_to run m (Err e) = answer.Error error.InvalidJson
+-- the reply to a request that is not refused, as data; the others are refused always
+abbrev pub answer_to : Run → Moment → Asking → Data
+answer_to run m (Ok (request.Greeting version)) = answer_data answer.Greeting
+answer_to run m (Ok request.Status) = answer_data (status run m)
+answer_to run m (Ok (request.RunSimulation until kinds)) = answer_data answer.RunSimulation
+answer_to run m (Ok (request.ListScopes scope)) = answer_data (answer.Error error.InvalidCommand)
+answer_to run m (Ok (request.ListItems scope)) = answer_data (answer.Error error.InvalidCommand)
+answer_to run m (Ok (request.ReferenceItems reference items)) = answer_data (answer.Error error.InvalidCommand)
+answer_to run m (Ok (request.QueryInterval begin end items encoding collapse diagnostics)) = answer_data (answer.Error error.InvalidCommand)
+answer_to run m (Ok request.PauseSimulation) = answer_data (answer.Error error.InvalidCommand)
+answer_to run m (Err e) = answer_data (answer.Error error.InvalidJson)
 
-abbrev pub answer_unless : Option ErrorKind → Answer → Answer
-answer_unless (Some e) a = answer.Error e
-answer_unless None a = a
+abbrev pub answer_unless : Option ErrorKind → Data → Data
+answer_unless (Some e) content = answer_data (answer.Error e)
+answer_unless None content = content
 
--- the reply to a packet, of a client that was greeted before it or not
-abbrev pub answer_in : Run → Bool → Moment → Asking → Answer
-answer_in run greeted m read = answer_unless (error_of greeted read) (answer_to run m read)
+-- the reply to a packet of a client
+abbrev pub answer_in : Run → Client → Moment → Asking → Data
+answer_in run client m read = answer_unless (error_of client read) (answer_to run m read)
 
 -- the bytes of the reply to a packet: by what stands just after its entry, and by the client's own earlier packets
 abbrev pub reply : Run → Moment → List (List ℕ) → List ℕ → List ℕ
-reply run m earlier packet = packet_text (answer_unless (refused earlier packet) (answer_to run m (asked packet)))
+reply run m earlier packet = packet_text (answer_in run (client_of earlier) m (asked packet))
 
 -- ---- events
 
@@ -116,15 +117,15 @@ cause_of (entry.Close c why) = cause.UntilTime
 cause_of entry.End = cause.UntilTime
 
 -- the event of an entry that reaches a goal, by what stands just after it
-abbrev pub event_of : Run → Moment → Entry → Answer
+abbrev pub event_of : Run → Moment → Entry → Data
 event_of run m e =
-    if is_finished run m then answer.Finished (time_of run (m.n - 1)) else answer.Paused (cause_of e) (time_of run (m.n - 1))
+    answer_data (if is_finished run m then answer.Finished (time_of run (m.n - 1)) else answer.Paused (cause_of e) (time_of run (m.n - 1)))
 
 -- the bytes of the event of an entry, for a client that listens
-abbrev pub event : Run → Bool → State → Entry → List ℕ
+abbrev pub event : Run → Bool → Replayed → Entry → List ℕ
 event run listens before e = if reaches before e && listens then packet_text (event_of run (moment_of (after before e)) e) else []
 
 -- the events of entries that are no packets
-unfoldable pub events : Run → Bool → State → List Entry → List ℕ
+unfoldable pub events : Run → Bool → Replayed → List Entry → List ℕ
 events run listens s [] = []
 events run listens s (e ∷ es) = event run listens s e ++ events run listens (after s e) es

@@ -9,7 +9,7 @@ use Rattle.hall_core.specs.declared.entry.Entry.{Entry}
 use Rattle.hall_core.specs.declared.entry.Entry.TheVariants as entry
 use Rattle.hall_core.specs.declared.entry.Why.{Why}
 use Rattle.hall_core.specs.declared.entry.Why.TheVariants as why
-use Rattle.proto_replies.specs.Data.{packet_text}
+use Rattle.proto_replies.specs.Data.{answer_data, packet_text}
 use Rattle.proto_replies.specs.declared.answer.Answer.TheVariants as answer
 use Rattle.proto_replies.specs.declared.answer.ErrorKind.TheVariants as error
 use Rattle.session_core.specs.Refusals.{is_greeted}
@@ -39,7 +39,7 @@ reply_at run m packets j = reply_to run m (take j packets) (slice_get packets j)
 
 -- what is sent for the reason of a close
 abbrev pub last_words : Why → List ℕ
-last_words why.TooLong = packet_text (answer.Error error.PacketTooLong)
+last_words why.TooLong = packet_text (answer_data (answer.Error error.PacketTooLong))
 last_words why.Ended = []
 last_words why.Fault = []
 last_words why.Slow = []

@@ -4,9 +4,11 @@ ghost use Rattle.std.specs.List.{list_any};
 ghost use Rattle.circuit.specs.Rounds.{Run};
 ghost use Rattle.hall_core.specs.Facts.{facts_of};
 ghost use Rattle.hall_core.specs.Legal.{Legal};
+ghost use Rattle.hall_core.specs.Replay.{replay};
 ghost use Rattle.hall_core.specs.declared.entry.Entry.{Entry};
 ghost use Rattle.hall_core.specs.declared.entry.Entry.TheVariants as entry;
 ghost use Rattle.proto_packets.specs.Asked.{asked};
+ghost use Rattle.session_core.specs.Recorded.{AreAlike};
 ghost use Rattle.session_core.specs.Refusals.{client_after, client_of, greets};
 ghost use Rattle.session_core.specs.Said.{given_by, moments, packets_in, replies, said};
 
@@ -46,4 +48,12 @@ pub fn law_of_openings()
 pub fn law_of_clients()
     ensures step { (earlier : List (List ℕ)) → (packet : List ℕ) → client_of (earlier ++ packet ∷ []) ≡ client_after (client_of earlier) (asked packet) }
     ensures greeted { (packets : List (List ℕ)) → (client_of packets).greeted ≡ list_any (λ packet. greets (asked packet)) packets }
+{}
+
+/// What is said holds values of recorded samples alone: two runs of one circuit, with as many samples at the same times, that
+/// show the same at each sample that a history records, say the same by it.
+#[tactic(auto, using(crate::proofs::Recorded::said_alike))]
+pub fn law_of_recorded_samples()
+    ensures { (one other : Run) → (packets : List (List ℕ)) → (c : ℕ) → (history : List Entry)
+        → AreAlike (replay history).n one other → said one packets c history ≡ said other packets c history }
 {}

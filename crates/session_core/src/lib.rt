@@ -2,8 +2,11 @@
 //! to it.
 #![tactic(auto)]
 
+mod client;
 mod laws;
 
+pub use client::Client;
 pub use laws::{
     law_of_clients, law_of_entries, law_of_isolation, law_of_more_packets, law_of_openings,
+    law_of_recorded_samples,
 };

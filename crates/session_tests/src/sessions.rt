@@ -10,7 +10,9 @@ use flat_stimulus::read_stimulus;
 use flat_text::{FlatFault, read_module};
 use frame_zero::{Framer, MAX_PACKET};
 use hall_core::{Why, log_text};
-use session_core::{law_of_entries, law_of_isolation, law_of_more_packets, law_of_openings};
+use session_core::{
+    law_of_entries, law_of_isolation, law_of_more_packets, law_of_openings, law_of_recorded_samples,
+};
 use sim_base::NoMemory;
 use solo_session::{Session, law_of_pace};
 use std::alloc::Global;
@@ -407,5 +409,6 @@ fn a_packet_has_at_most_1048576_bytes(rt: HostRuntime) -> Result<(), Fail> {
     law_of_more_packets();
     law_of_openings();
     law_of_pace();
+    law_of_recorded_samples();
     Ok(())
 }

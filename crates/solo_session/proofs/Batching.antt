@@ -9,7 +9,7 @@ use Rattle.circuit.specs.Rounds.{Run, run_length}
 use Rattle.circuit.specs.Shown.{fires_at, hits, is_among}
 use Rattle.hall_core.specs.Facts.{facts_of}
 use Rattle.hall_core.specs.Legal.{RunFacts, allowed}
-use Rattle.hall_core.specs.Replay.{State}
+use Rattle.hall_core.specs.Replay.{Replayed}
 use Rattle.hall_core.specs.declared.entry.Entry.TheVariants as entry
 use Rattle.hall_core.specs.declared.entry.Goal.{Goal}
 use Rattle.hall_core.specs.declared.entry.Goal.TheVariants as goal
@@ -45,7 +45,7 @@ false_second : (a b : Bool) → b ≡ false → (a && b) ≡ false
 false_second true b q = q
 false_second false b q = refl
 
-abbrev standing : ℕ → ℕ → Kinds → List Bool → State
+abbrev standing : ℕ → ℕ → Kinds → List Bool → Replayed
 standing n g kinds clients = record { n = n; goal = goal.To g kinds; unsettled = false; clients = clients }
 
 -- a circuit without diagnostics hits nothing
@@ -86,7 +86,7 @@ no_hits : (run : Run) → run.circuit.diags ≡ [] → (k : ℕ) (kinds : Kinds)
 no_hits run none k kinds = ap (λ ds. list_any (λ d. is_among kinds d.kind && fires_at run k d) ds) none
 
 -- a goal that is asked for lets the samples be recorded
-module _ (run : Run) (s : State) (g : ℕ) (kinds : Kinds) (serving : IsServing run s) (asked : s.goal ≡ goal.To g kinds) (none : run.circuit.diags ≡ []) where
+module _ (run : Run) (s : Replayed) (g : ℕ) (kinds : Kinds) (serving : IsServing run s) (asked : s.goal ≡ goal.To g kinds) (none : run.circuit.diags ≡ []) where
   ahead : IsAhead run s (goal.To g kinds)
   ahead = subst (λ (x : Goal). IsAhead run s x) asked serving.ahead
 
@@ -115,7 +115,7 @@ unfolding greatest
 none_passes test fails zero = refl
 none_passes test fails (suc n) = cond-false (test (suc n)) (suc n) (greatest test n) (fails (suc n)) ∙ none_passes test fails n
 
-module _ (run : Run) (s : State) (serving : IsServing run s) (held : (g : ℕ) (kinds : Kinds) → s.goal ≡ goal.To g kinds → ⊥) where
+module _ (run : Run) (s : Replayed) (serving : IsServing run s) (held : (g : ℕ) (kinds : Kinds) → s.goal ≡ goal.To g kinds → ⊥) where
   is_held : (x : Goal) → s.goal ≡ x → IsAhead run s x → s.goal ≡ goal.Hold
   is_held goal.Hold e a = e
   is_held (goal.To g kinds) e a = absurd (held g kinds e)
@@ -142,12 +142,12 @@ greatest_passes test (suc n) lt = elim (cases_Bool (test (suc n))) [
   | inr off ↦ (let e : greatest test (suc n) ≡ greatest test n = cond-false (test (suc n)) (suc n) (greatest test n) off in ap test e ∙ greatest_passes test n (let h : 0 < greatest test n = subst (λ x. 0 < x) e lt in h))
 ]
 
-pub may_most : (facts : RunFacts) (s : State) (m : ℕ) → m ≡ most_next facts s → 0 < m → record_of facts s m ≡ entry.Record m false → allowed facts.count s (entry.Record m false) ≡ true
+pub may_most : (facts : RunFacts) (s : Replayed) (m : ℕ) → m ≡ most_next facts s → 0 < m → record_of facts s m ≡ entry.Record m false → allowed facts.count s (entry.Record m false) ≡ true
 may_most facts s m is lt entry =
     let passes : may_record facts s m ≡ true = ap (may_record facts s) is ∙ greatest_passes (may_record facts s) batch_size (subst (λ x. 0 < x) is lt) in
     ap (allowed facts.count s) (sym entry) ∙ and-first _ _ passes
 
-pub settles_most : (facts : RunFacts) (s : State) (m : ℕ) → m ≡ most_next facts s → 0 < m → s.n + m ≤ facts.length
+pub settles_most : (facts : RunFacts) (s : Replayed) (m : ℕ) → m ≡ most_next facts s → 0 < m → s.n + m ≤ facts.length
 settles_most facts s m is lt =
     let passes : may_record facts s m ≡ true = ap (may_record facts s) is ∙ greatest_passes (may_record facts s) batch_size (subst (λ x. 0 < x) is lt) in
     le_of (s.n + m) facts.length (and-first _ _ (and-second _ _ passes))
@@ -155,33 +155,33 @@ settles_most facts s m is lt =
     le_of : (a b : ℕ) → nat_le a b ≡ true → a ≤ b
     le_of a b e = grind (arith, nat_tests)
 
-running_by : (run : Run) (s : State) (x : Goal) → s.goal ≡ x → IsAhead run s x → (s.goal ≡ goal.Hold → ⊥) → IsRunning x
+running_by : (run : Run) (s : Replayed) (x : Goal) → s.goal ≡ x → IsAhead run s x → (s.goal ≡ goal.Hold → ⊥) → IsRunning x
 running_by run s goal.Hold e a free = absurd (free e)
 running_by run s (goal.To g kinds) e a free = tt {0}
 running_by run s goal.Over e a free = absurd a
 
 -- where something may be recorded, the goal asks for it
-pub most_running : (run : Run) (s : State) (m : ℕ) → IsServing run s → m ≡ most_next (facts_of run) s → 0 < m → IsRunning s.goal
+pub most_running : (run : Run) (s : Replayed) (m : ℕ) → IsServing run s → m ≡ most_next (facts_of run) s → 0 < m → IsRunning s.goal
 most_running run s m serving is lt =
     running_by run s s.goal refl serving.ahead
     (λ held. (let none : most_next (facts_of run) s ≡ 0 = most_held run s serving (λ g kinds e. (let x : goal.Hold ≡ goal.To g kinds = sym held ∙ e in cc)) in omega (arith, is, lt, none)))
 
 -- ---- the events of a batch's entries
 
-pub events_recorded : (run : Run) (l : Bool) (facts : RunFacts) (s : State) (m : ℕ) → 0 < m → record_of facts s m ≡ entry.Record m false → events run l s (record_entries facts s m) ≡ event run l s (entry.Record m false)
+pub events_recorded : (run : Run) (l : Bool) (facts : RunFacts) (s : Replayed) (m : ℕ) → 0 < m → record_of facts s m ≡ entry.Record m false → events run l s (record_entries facts s m) ≡ event run l s (entry.Record m false)
 unfolding events
 events_recorded run l facts s zero lt is = absurd (omega (arith, lt))
 events_recorded run l facts s (suc m) lt is = append-nil _ ∙ ap (event run l s) is
 
-pub events_unrecorded : (run : Run) (l : Bool) (facts : RunFacts) (s : State) (m : ℕ) → m ≡ 0 → events run l s (record_entries facts s m) ≡ []
+pub events_unrecorded : (run : Run) (l : Bool) (facts : RunFacts) (s : Replayed) (m : ℕ) → m ≡ 0 → events run l s (record_entries facts s m) ≡ []
 unfolding events
 events_unrecorded run l facts s zero is = refl
 events_unrecorded run l facts s (suc m) is = absurd (omega (arith, is))
 
-pub events_stopped : (run : Run) (l : Bool) (facts : RunFacts) (s : State) → may_stop facts s ≡ true → events run l s (stop_entries facts s) ≡ event run l s entry.Unsettled
+pub events_stopped : (run : Run) (l : Bool) (facts : RunFacts) (s : Replayed) → may_stop facts s ≡ true → events run l s (stop_entries facts s) ≡ event run l s entry.Unsettled
 unfolding events
 events_stopped run l facts s on = ap (events run l s) (cond-true (may_stop facts s) _ _ on) ∙ append-nil _
 
-pub events_unstopped : (run : Run) (l : Bool) (facts : RunFacts) (s : State) → may_stop facts s ≡ false → events run l s (stop_entries facts s) ≡ []
+pub events_unstopped : (run : Run) (l : Bool) (facts : RunFacts) (s : Replayed) → may_stop facts s ≡ false → events run l s (stop_entries facts s) ≡ []
 unfolding events
 events_unstopped run l facts s off = ap (events run l s) (cond-false (may_stop facts s) _ _ off)

@@ -7,7 +7,7 @@ use Rattle.sim_base.specs.declared.kinds.Kinds.{Kinds}
 use Rattle.circuit.specs.Rounds.{Run, run_length}
 use Rattle.hall_core.specs.Facts.{facts_of}
 use Rattle.hall_core.specs.Legal.{RunFacts, allowed}
-use Rattle.hall_core.specs.Replay.{State, reaches, replay}
+use Rattle.hall_core.specs.Replay.{Replayed, reaches, replay}
 use Rattle.hall_core.specs.declared.entry.Entry.{Entry}
 use Rattle.hall_core.specs.declared.entry.Entry.TheVariants as entry
 use Rattle.hall_core.specs.declared.entry.Goal.{Goal}
@@ -28,10 +28,10 @@ held_or false g is = is
 held_recorded : (facts : RunFacts) (h : List Entry) (m : ℕ) → (replay h).goal ≡ goal.Hold → (replay (h ++ record_entries facts (replay h) m)).goal ≡ goal.Hold
 held_recorded facts h zero is = ap (λ z. (replay z).goal) (append-nil h) ∙ is
 held_recorded facts h (suc m) is =
-    ap (λ (z : State). z.goal) (replay-push h (record_of facts (replay h) (suc m))) ∙ held_or (reaches (replay h) (record_of facts (replay h) (suc m))) (replay h).goal is
+    ap (λ (z : Replayed). z.goal) (replay-push h (record_of facts (replay h) (suc m))) ∙ held_or (reaches (replay h) (record_of facts (replay h) (suc m))) (replay h).goal is
 
 held_stopped : (h : List Entry) (stops : Bool) → (replay h).goal ≡ goal.Hold → (replay (h ++ (if stops then entry.Unsettled ∷ [] else []))).goal ≡ goal.Hold
-held_stopped h true is = ap (λ (z : State). z.goal) (replay-push h entry.Unsettled)
+held_stopped h true is = ap (λ (z : Replayed). z.goal) (replay-push h entry.Unsettled)
 held_stopped h false is = ap (λ z. (replay z).goal) (append-nil h) ∙ is
 
 held_batch : (facts : RunFacts) (h : List Entry) → (replay h).goal ≡ goal.Hold → (replay (batch facts h)).goal ≡ goal.Hold
@@ -62,7 +62,7 @@ middle true true true one other fails = fails
 middle false true c one other fails = absurd (false≢true one)
 middle true true false one other fails = absurd (false≢true other)
 
-abbrev asking : ℕ → ℕ → Kinds → List Bool → State
+abbrev asking : ℕ → ℕ → Kinds → List Bool → Replayed
 asking n g kinds clients = record { n = n; goal = goal.To g kinds; unsettled = false; clients = clients }
 
 module _ (facts : RunFacts) (n g : ℕ) (kinds : Kinds) (clients : List Bool) (some : 1 ≤ n) (ahead : n < g) (within : g ≤ facts.count) (settled : n ≤ facts.length) where
@@ -80,12 +80,12 @@ module _ (facts : RunFacts) (n g : ℕ) (kinds : Kinds) (clients : List Bool) (s
   stops is =
       may_end (above (middle _ (nat_le (n + 1) facts.length) _ (may_one _) refl (none_of (may_record facts (asking n g kinds clients)) batch_size 1 is (omega arith) (omega arith))))
 
-is_asking : (s : State) (g : ℕ) (kinds : Kinds) → s.goal ≡ goal.To g kinds → s.unsettled ≡ false → s ≡ asking s.n g kinds s.clients
+is_asking : (s : Replayed) (g : ℕ) (kinds : Kinds) → s.goal ≡ goal.To g kinds → s.unsettled ≡ false → s ≡ asking s.n g kinds s.clients
 is_asking s g kinds asked free =
     ap (λ (x : Goal). record { n = s.n; goal = x; unsettled = s.unsettled; clients = s.clients }) asked
     ∙ ap (λ (b : Bool). record { n = s.n; goal = goal.To g kinds; unsettled = b; clients = s.clients }) free
 
-stops_there : (run : Run) (s : State) (g : ℕ) (kinds : Kinds) → IsServing run s → s.goal ≡ goal.To g kinds → most_next (facts_of run) s ≡ 0 → may_stop (facts_of run) s ≡ true
+stops_there : (run : Run) (s : Replayed) (g : ℕ) (kinds : Kinds) → IsServing run s → s.goal ≡ goal.To g kinds → most_next (facts_of run) s ≡ 0 → may_stop (facts_of run) s ≡ true
 stops_there run s g kinds serving asked is =
     let ahead : IsAhead run s (goal.To g kinds) = subst (λ (x : Goal). IsAhead run s x) asked serving.ahead in
     let same : s ≡ asking s.n g kinds s.clients = is_asking s g kinds asked ahead.2 in
@@ -95,11 +95,11 @@ stops_there run s g kinds serving asked is =
 -- ---- a batch leaves no goal, or records
 
 n_stopped : (h : List Entry) (stops : Bool) → (replay (h ++ (if stops then entry.Unsettled ∷ [] else []))).n ≡ (replay h).n
-n_stopped h true = ap (λ (z : State). z.n) (replay-push h entry.Unsettled)
+n_stopped h true = ap (λ (z : Replayed). z.n) (replay-push h entry.Unsettled)
 n_stopped h false = ap (λ z. (replay z).n) (append-nil h)
 
 held_by : (h : List Entry) (stops : Bool) → stops ≡ true → (replay (h ++ (if stops then entry.Unsettled ∷ [] else []))).goal ≡ goal.Hold
-held_by h true is = ap (λ (z : State). z.goal) (replay-push h entry.Unsettled)
+held_by h true is = ap (λ (z : Replayed). z.goal) (replay-push h entry.Unsettled)
 held_by h false is = absurd (false≢true is)
 
 abbrev GoesOn : RunFacts → List Entry → Type 0
@@ -108,7 +108,7 @@ GoesOn facts h = ((replay (batch facts h)).goal ≡ goal.Hold) ⊎ ((replay h).n
 n_recorded : (facts : RunFacts) (h : List Entry) (m k : ℕ) → m ≡ suc k → (replay h).n + 1 ≤ (replay (h ++ record_entries facts (replay h) m)).n
 n_recorded facts h zero k is = absurd (omega (arith, is))
 n_recorded facts h (suc m) k is =
-    let there : (replay (h ++ record_of facts (replay h) (suc m) ∷ [])).n ≡ (replay h).n + suc m = ap (λ (z : State). z.n) (replay-push h (record_of facts (replay h) (suc m))) in
+    let there : (replay (h ++ record_of facts (replay h) (suc m) ∷ [])).n ≡ (replay h).n + suc m = ap (λ (z : Replayed). z.n) (replay-push h (record_of facts (replay h) (suc m))) in
     omega (arith, there)
 
 nothing_recorded : (facts : RunFacts) (h : List Entry) (m : ℕ) → m ≡ 0 → h ++ record_entries facts (replay h) m ≡ h

@@ -9,7 +9,7 @@ use Rattle.hall_core.specs.Samples.{samples_until}
 use Rattle.hall_core.specs.Facts.{facts_of}
 use Rattle.hall_core.specs.Laws.{Taken, none, one_more, is_recording}
 use Rattle.hall_core.specs.Legal.{RunFacts, is_open, is_true, may_act}
-use Rattle.hall_core.specs.Replay.{State, after, replay}
+use Rattle.hall_core.specs.Replay.{Replayed, after, replay}
 use Rattle.hall_core.specs.declared.entry.Act.{Act}
 use Rattle.hall_core.specs.declared.entry.Entry.{Entry}
 use Rattle.hall_core.specs.declared.entry.Entry.TheVariants as entry
@@ -18,13 +18,13 @@ use Rattle.proto_packets.specs.Asked.{asked}
 use Rattle.proto_packets.specs.declared.request.Request.TheVariants as request
 use Rattle.proto_replies.specs.Data.{packet_text}
 use Rattle.proto_replies.specs.declared.answer.ErrorKind.{ErrorKind}
-use Rattle.session_core.specs.Refusals.{Asking, error_of, greets, is_greeted}
+use Rattle.session_core.specs.Refusals.{Asking, Client, client_after, client_of, error_of, new_client}
 use Rattle.session_core.specs.Replies.{act_asked, act_in, act_of, act_unless, answer_in, event, goal_of, events}
 use Rattle.hall_core.specs.Moments.{moment_of}
 use Rattle.session_core.specs.Said.{Agrees, packets_in, said, said_behind}
 use Rattle.solo_session.specs.Pace.{batch, batches, opening, with_packet, with_packets}
 use Rattle.solo_session.specs.Session.{HasSaid, HasServed, IsServing, Conversation, packet_entry}
-use Rattle.session_core.proofs.Sayings.{is_greeted_push, packets_in_batch, packets_in_push_packet, said_batch, said_packet}
+use Rattle.session_core.proofs.Sayings.{client_push, packets_in_batch, packets_in_push_packet, said_batch, said_packet}
 use Rattle.session_core.proofs.Agreeing.{agrees_batch, agrees_packet}
 use Rattle.solo_session.proofs.Serving.{packet_allowed, packet_served}
 use Rattle.solo_session.proofs.Taking.{taken_packet}
@@ -48,20 +48,20 @@ batches_push facts k h = (let more : k + 1 ≡ suc k = omega arith in ap (λ z. 
 
 -- ---- samples are recorded
 
-open_served : (run : Run) (s : State) → IsServing run s → is_open s 0 ≡ true
+open_served : (run : Run) (s : Replayed) → IsServing run s → is_open s 0 ≡ true
 open_served run s serving = ap (λ cs. is_true (slice_get cs 0)) serving.clients
 
 pub has_said_more : (packets : List (List ℕ)) (s : Conversation) (bytes : List ℕ) (es : List Entry) → HasSaid packets s bytes → list_all is_recording es ≡ true → Taken (facts_of s.run) (s.history ++ es) → IsServing s.run (replay (s.history ++ es))
-    → HasSaid packets (record s { history = s.history ++ es }) (bytes ++ events s.run s.greeted (replay s.history) es)
+    → HasSaid packets (record s { history = s.history ++ es }) (bytes ++ events s.run s.client.greeted (replay s.history) es)
 has_said_more packets s bytes es has all taken serving = record {
   serving = serving;
-  greeted = has.greeted;
+  client = has.client;
   counted = packets_in_batch s.history es all ∙ has.counted;
   taken = taken;
   agrees = agrees_batch s.run packets s.history es has.agrees all;
   said =
-      ap (λ z. z ++ events s.run s.greeted (replay s.history) es) has.said
-      ∙ ap (λ b. said s.run packets 0 s.history ++ events s.run b (replay s.history) es) has.greeted
+      ap (λ z. z ++ events s.run s.client.greeted (replay s.history) es) has.said
+      ∙ ap (λ (client : Client). said s.run packets 0 s.history ++ events s.run client.greeted (replay s.history) es) has.client
       ∙ sym (said_batch s.run packets s.history es (open_served s.run (replay s.history) has.serving) has.counted all);
 }
 
@@ -98,52 +98,52 @@ may_unless : (count : ℕ) (refusal : Option ErrorKind) (what : Act) → may_act
 may_unless count (Some e) what may = refl
 may_unless count None what may = may
 
-pub may_in : (run : Run) (greeted : Bool) (read : Asking) → may_act run.count (act_in run greeted read) ≡ true
-may_in run greeted read = may_unless run.count (error_of greeted read) (act_asked run read) (may_asked run read)
+pub may_in : (run : Run) (client : Client) (read : Asking) → may_act run.count (act_in run client read) ≡ true
+may_in run client read = may_unless run.count (error_of client read) (act_asked run read) (may_asked run read)
 
 -- ---- a packet is served
 
 module _ (packets : List (List ℕ)) (s : Conversation) (bytes p : List ℕ) (has : HasSaid packets s bytes) where
-  greeted_more : (s.greeted || greets (asked p)) ≡ is_greeted (packets ++ p ∷ [])
-  greeted_more = ap (λ b. b || greets (asked p)) has.greeted ∙ sym (is_greeted_push packets p)
+  client_more : client_after s.client (asked p) ≡ client_of (packets ++ p ∷ [])
+  client_more = ap (λ (client : Client). client_after client (asked p)) has.client ∙ sym (client_push packets p)
 
-  what_is : act_in s.run s.greeted (asked p) ≡ act_of s.run packets p
-  what_is = ap (λ b. act_in s.run b (asked p)) has.greeted
+  what_is : act_in s.run s.client (asked p) ≡ act_of s.run packets p
+  what_is = ap (λ (client : Client). act_in s.run client (asked p)) has.client
 
   serving_packet : IsServing s.run (replay (s.history ++ packet_entry s (asked p) ∷ []))
   serving_packet =
       subst (λ z. IsServing s.run z) (sym (replay-push s.history (packet_entry s (asked p))))
-      (packet_served s.run (replay s.history) (act_in s.run s.greeted (asked p)) has.serving (may_in s.run s.greeted (asked p)))
+      (packet_served s.run (replay s.history) (act_in s.run s.client (asked p)) has.serving (may_in s.run s.client (asked p)))
 
   counted_packet : packets_in 0 (s.history ++ packet_entry s (asked p) ∷ []) ≡ length (packets ++ p ∷ [])
-  counted_packet = omega (arith, has.counted, packets_in_push_packet s.history (act_in s.run s.greeted (asked p)), length_push packets p)
+  counted_packet = omega (arith, has.counted, packets_in_push_packet s.history (act_in s.run s.client (asked p)), length_push packets p)
 
   taken_in : Taken (facts_of s.run) (s.history ++ packet_entry s (asked p) ∷ [])
   taken_in =
-      taken_packet (facts_of s.run) s.history (act_in s.run s.greeted (asked p))
-      (packet_allowed s.run (replay s.history) (act_in s.run s.greeted (asked p)) has.serving (may_in s.run s.greeted (asked p))) has.taken
+      taken_packet (facts_of s.run) s.history (act_in s.run s.client (asked p))
+      (packet_allowed s.run (replay s.history) (act_in s.run s.client (asked p)) has.serving (may_in s.run s.client (asked p))) has.taken
 
   agrees_in : Agrees s.run (packets ++ p ∷ []) 0 (s.history ++ packet_entry s (asked p) ∷ [])
   agrees_in = subst (λ z. Agrees s.run (packets ++ p ∷ []) 0 (s.history ++ entry.Packet 0 z ∷ [])) (sym what_is) (agrees_packet s.run packets p s.history has.agrees has.counted)
 
-  text_of : Bool → Bool → List ℕ
-  text_of was now = packet_text (answer_in s.run was (moment_of (after (replay s.history) (packet_entry s (asked p)))) (asked p)) ++ event s.run now (replay s.history) (packet_entry s (asked p))
+  text_of : Client → Client → List ℕ
+  text_of was now = packet_text (answer_in s.run was (moment_of (after (replay s.history) (packet_entry s (asked p)))) (asked p)) ++ event s.run now.greeted (replay s.history) (packet_entry s (asked p))
 
-  said_in : bytes ++ text_of s.greeted (s.greeted || greets (asked p)) ≡ said s.run (packets ++ p ∷ []) 0 (s.history ++ packet_entry s (asked p) ∷ [])
+  said_in : bytes ++ text_of s.client (client_after s.client (asked p)) ≡ said s.run (packets ++ p ∷ []) 0 (s.history ++ packet_entry s (asked p) ∷ [])
   unfolding text_of
   said_in =
-      ap (λ z. z ++ text_of s.greeted (s.greeted || greets (asked p))) has.said
-      ∙ ap (λ b. said s.run packets 0 s.history ++ text_of b (s.greeted || greets (asked p))) has.greeted
-      ∙ ap (λ b. said s.run packets 0 s.history ++ text_of (is_greeted packets) b) greeted_more
-      ∙ sym (said_packet s.run packets p s.history (act_in s.run s.greeted (asked p)) (open_served s.run (replay s.history) has.serving) has.counted)
+      ap (λ z. z ++ text_of s.client (client_after s.client (asked p))) has.said
+      ∙ ap (λ (client : Client). said s.run packets 0 s.history ++ text_of client (client_after s.client (asked p))) has.client
+      ∙ ap (λ (client : Client). said s.run packets 0 s.history ++ text_of (client_of packets) client) client_more
+      ∙ sym (said_packet s.run packets p s.history (act_in s.run s.client (asked p)) (open_served s.run (replay s.history) has.serving) has.counted)
 
 pub has_said_packet : (packets : List (List ℕ)) (s : Conversation) (bytes p : List ℕ) → HasSaid packets s bytes
-    → HasSaid (packets ++ p ∷ []) (record s { history = s.history ++ packet_entry s (asked p) ∷ []; greeted = s.greeted || greets (asked p) })
-    (bytes ++ (packet_text (answer_in s.run s.greeted (moment_of (after (replay s.history) (packet_entry s (asked p)))) (asked p)) ++ event s.run (s.greeted || greets (asked p)) (replay s.history) (packet_entry s (asked p))))
+    → HasSaid (packets ++ p ∷ []) (record s { history = s.history ++ packet_entry s (asked p) ∷ []; client = client_after s.client (asked p) })
+    (bytes ++ (packet_text (answer_in s.run s.client (moment_of (after (replay s.history) (packet_entry s (asked p)))) (asked p)) ++ event s.run (client_after s.client (asked p)).greeted (replay s.history) (packet_entry s (asked p))))
 unfolding text_of
 has_said_packet packets s bytes p has = record {
   serving = serving_packet packets s bytes p has;
-  greeted = greeted_more packets s bytes p has;
+  client = client_more packets s bytes p has;
   counted = counted_packet packets s bytes p has;
   taken = taken_in packets s bytes p has;
   agrees = agrees_in packets s bytes p has;
@@ -154,7 +154,7 @@ paced_packet : (packets : List (List ℕ)) (s next : Conversation) (bytes p : Li
     → next.history ≡ with_packets next.run [] opening (packets ++ p ∷ [])
 paced_packet packets s next bytes p served same is =
     is
-    ∙ ap (λ b. batch (facts_of s.run) (s.history ++ entry.Packet 0 (act_in s.run b (asked p)) ∷ [])) served.has_said.greeted
+    ∙ ap (λ (client : Client). batch (facts_of s.run) (s.history ++ entry.Packet 0 (act_in s.run client (asked p)) ∷ [])) served.has_said.client
     ∙ ap (λ h. with_packet s.run packets h p) served.paced
     ∙ sym (with_packets_push s.run [] opening packets p)
     ∙ ap (λ (r : Run). with_packets r [] opening (packets ++ p ∷ [])) (sym same)
@@ -184,13 +184,13 @@ opened_said run = refl
 pub opened_taken : (facts : RunFacts) → 1 ≤ facts.length → Taken facts opening
 opened_taken facts some = one_more (one_more none (entry.Record 1 false) (record { allows = refl; meets = (some, tt {0}) })) (entry.Open 0) (record { allows = refl; meets = tt {0} })
 
-pub opened : (run : Run) → 1 ≤ run_length run → HasServed [] (record { run = run; history = opening; greeted = false }) []
+pub opened : (run : Run) → 1 ≤ run_length run → HasServed [] (record { run = run; history = opening; client = new_client }) []
 unfolding with_packets
 opened run some = record {
   paced = refl;
   has_said = record {
     serving = record { clients = refl; some = omega arith; settled = some; ahead = tt {0} };
-    greeted = refl;
+    client = refl;
     counted = refl;
     taken = opened_taken (facts_of run) some;
     agrees = opened_agrees run;
@@ -199,8 +199,8 @@ opened run some = record {
 }
 
 -- a session of a run of which sample 0 settles, with the beginning of a history
-pub opened_as : (s : Conversation) (run : Run) → s.run ≡ run → s.history ≡ opening → s.greeted ≡ false → 1 ≤ run_length run → HasServed [] s []
+pub opened_as : (s : Conversation) (run : Run) → s.run ≡ run → s.history ≡ opening → s.client ≡ new_client → 1 ≤ run_length run → HasServed [] s []
 opened_as s run same_run is plain some =
-    subst (λ (r : Run). HasServed [] (record { run = r; history = s.history; greeted = s.greeted }) []) (sym same_run)
-    (subst (λ (h : List Entry). HasServed [] (record { run = run; history = h; greeted = s.greeted }) []) (sym is)
-    (subst (λ (b : Bool). HasServed [] (record { run = run; history = opening; greeted = b }) []) (sym plain) (opened run some)))
+    subst (λ (r : Run). HasServed [] (record { run = r; history = s.history; client = s.client }) []) (sym same_run)
+    (subst (λ (h : List Entry). HasServed [] (record { run = run; history = h; client = s.client }) []) (sym is)
+    (subst (λ (client : Client). HasServed [] (record { run = run; history = opening; client = client }) []) (sym plain) (opened run some)))

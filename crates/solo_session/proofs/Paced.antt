@@ -8,7 +8,7 @@ use Rattle.circuit.specs.Rounds.{Run, run_length}
 use Rattle.hall_core.specs.Facts.{facts_of}
 use Rattle.hall_core.specs.Laws.{Taken, none, one_more}
 use Rattle.hall_core.specs.Legal.{Legal, allowed}
-use Rattle.hall_core.specs.Replay.{State, after, replay}
+use Rattle.hall_core.specs.Replay.{Replayed, after, replay}
 use Rattle.hall_core.specs.declared.entry.Entry.{Entry}
 use Rattle.hall_core.specs.declared.entry.Entry.TheVariants as entry
 use Rattle.hall_core.specs.declared.entry.Why.{Why}
@@ -16,7 +16,7 @@ use Rattle.hall_core.specs.declared.entry.Why.TheVariants as why
 use Rattle.hall_core.proofs.Histories.{legal_taken}
 use Rattle.hall_core.proofs.Progress.{replay-push}
 use Rattle.proto_packets.specs.Asked.{asked}
-use Rattle.session_core.specs.Refusals.{is_greeted}
+use Rattle.session_core.specs.Refusals.{client_of}
 use Rattle.session_core.specs.Replies.{act_of}
 use Rattle.session_core.specs.Said.{Agrees, packets_in}
 use Rattle.solo_session.specs.Pace.{batch, batch_size, batches, closing, most_next, opening, packets_of, record_entries, recorded, solo_history, stop_entries, stopped, with_packet, with_packets}
@@ -30,7 +30,7 @@ use Rattle.solo_session.proofs.Taking.{all_recording_record, all_recording_stop,
 
 -- ---- the client goes on to be served
 
-serving_record : (run : Run) (s : State) (m : ℕ) (hit : Bool) → IsServing run s → s.n + m ≤ run_length run → allowed run.count s (entry.Record m hit) ≡ true → IsServing run (after s (entry.Record m hit))
+serving_record : (run : Run) (s : Replayed) (m : ℕ) (hit : Bool) → IsServing run s → s.n + m ≤ run_length run → allowed run.count s (entry.Record m hit) ≡ true → IsServing run (after s (entry.Record m hit))
 serving_record run s m true serving settles may = record { clients = serving.clients; some = omega (arith, serving.some); settled = settles; ahead = tt {0} }
 serving_record run s m false serving settles may = record_served run s m serving settles may
 
@@ -40,12 +40,12 @@ serving_recorded run h (suc m) most serving =
     let passes : may_record (facts_of run) (replay h) (suc m) ≡ true = greatest_passes (may_record (facts_of run) (replay h)) batch_size m most in
     let parts = and_parts (allowed run.count (replay h) (record_of (facts_of run) (replay h) (suc m))) (nat_le ((replay h).n + suc m) (run_length run) && not (some_hits (facts_of run) (replay h).goal (replay h).n (suc m - 1))) passes in
     let settles = and_parts (nat_le ((replay h).n + suc m) (run_length run)) (not (some_hits (facts_of run) (replay h).goal (replay h).n (suc m - 1))) parts.1 in
-    subst (λ (z : State). IsServing run z) (sym (replay-push h (record_of (facts_of run) (replay h) (suc m))))
+    subst (λ (z : Replayed). IsServing run z) (sym (replay-push h (record_of (facts_of run) (replay h) (suc m))))
     (serving_record run (replay h) (suc m) (hits_goal (facts_of run) (replay h).goal ((replay h).n + suc m - 1)) serving (le_of ((replay h).n + suc m) (run_length run) settles.0) parts.0)
 
 serving_if : (run : Run) (h : List Entry) (stops : Bool) → IsServing run (replay h) → IsServing run (replay (h ++ (if stops then entry.Unsettled ∷ [] else [])))
 serving_if run h true serving =
-    subst (λ (z : State). IsServing run z) (sym (replay-push h entry.Unsettled)) (record { clients = serving.clients; some = serving.some; settled = serving.settled; ahead = tt {0} })
+    subst (λ (z : Replayed). IsServing run z) (sym (replay-push h entry.Unsettled)) (record { clients = serving.clients; some = serving.some; settled = serving.settled; ahead = tt {0} })
 serving_if run h false serving = subst (λ z. IsServing run (replay z)) (sym (append-nil h)) serving
 
 pub serving_batch : (run : Run) (h : List Entry) → IsServing run (replay h) → IsServing run (replay (batch (facts_of run) h))
@@ -90,9 +90,9 @@ paced_batch run ps h paced = paced_stopped run ps (recorded (facts_of run) h) (p
 
 paced_packet : (run : Run) (ps : List (List ℕ)) (p : List ℕ) (h : List Entry) → IsPaced run ps h → IsPaced run (ps ++ p ∷ []) (h ++ entry.Packet 0 (act_of run ps p) ∷ [])
 paced_packet run ps p h paced =
-    let may = may_in run (is_greeted ps) (asked p) in
+    let may = may_in run (client_of ps) (asked p) in
     record {
-      serving = subst (λ (z : State). IsServing run z) (sym (replay-push h (entry.Packet 0 (act_of run ps p)))) (packet_served run (replay h) (act_of run ps p) paced.serving may);
+      serving = subst (λ (z : Replayed). IsServing run z) (sym (replay-push h (entry.Packet 0 (act_of run ps p)))) (packet_served run (replay h) (act_of run ps p) paced.serving may);
       taken = taken_packet (facts_of run) h (act_of run ps p) (packet_allowed run (replay h) (act_of run ps p) paced.serving may) paced.taken;
       counted = omega (arith, paced.counted, packets_in_push_packet h (act_of run ps p), length_push ps p);
       agrees = agrees_packet run ps p h paced.agrees paced.counted;

@@ -11,7 +11,7 @@ use Rattle.hall_core.specs.Replay.{after, replay}
 use Rattle.hall_core.specs.declared.entry.Entry.{Entry}
 use Rattle.proto_packets.specs.Asked.{asked}
 use Rattle.proto_replies.specs.Data.{packet_text}
-use Rattle.session_core.specs.Refusals.{greets}
+use Rattle.session_core.specs.Refusals.{client_after}
 use Rattle.session_core.specs.Replies.{answer_in, event, events}
 use Rattle.hall_core.specs.Moments.{moment_of}
 use Rattle.solo_session.specs.Pace.{batch, batches, most_next, record_entries, recorded, stop_entries, stopped}
@@ -25,28 +25,28 @@ on_text : (sent text more now : List ℕ) → now ≡ text ++ more → (sent ++ 
 on_text sent text more now is = append_assoc sent text more ∙ ap (λ z. sent ++ z) (sym is)
 
 said_step : (ps : List (List ℕ)) (s next : Conversation) (sent text now : List ℕ) (es : List Entry) → HasSaid ps s (sent ++ text) → list_all is_recording es ≡ true → Taken (facts_of s.run) (s.history ++ es)
-    → next ≡ record s { history = s.history ++ es } → IsServing next.run (replay next.history) → now ≡ text ++ events s.run s.greeted (replay s.history) es → HasSaid ps next (sent ++ now)
+    → next ≡ record s { history = s.history ++ es } → IsServing next.run (replay next.history) → now ≡ text ++ events s.run s.client.greeted (replay s.history) es → HasSaid ps next (sent ++ now)
 said_step ps s next sent text now es has all taken is serving text_is =
     subst (λ x. HasSaid ps x (sent ++ now)) (sym is)
-    (subst (λ b. HasSaid ps (record s { history = s.history ++ es }) b) (on_text sent text (events s.run s.greeted (replay s.history) es) now text_is)
+    (subst (λ b. HasSaid ps (record s { history = s.history ++ es }) b) (on_text sent text (events s.run s.client.greeted (replay s.history) es) now text_is)
     (has_said_more ps s (sent ++ text) es has all taken (subst (λ (x : Conversation). IsServing x.run (replay x.history)) is serving)))
 
 pub recorded_said : (ps : List (List ℕ)) (s next : Conversation) (sent text now : List ℕ) → HasSaid ps s (sent ++ text) → next ≡ record s { history = recorded (facts_of s.run) s.history } → IsServing next.run (replay next.history)
-    → now ≡ text ++ events s.run s.greeted (replay s.history) (record_entries (facts_of s.run) (replay s.history) (most_next (facts_of s.run) (replay s.history))) → HasSaid ps next (sent ++ now)
+    → now ≡ text ++ events s.run s.client.greeted (replay s.history) (record_entries (facts_of s.run) (replay s.history) (most_next (facts_of s.run) (replay s.history))) → HasSaid ps next (sent ++ now)
 recorded_said ps s next sent text now has is serving text_is =
     said_step ps s next sent text now (record_entries (facts_of s.run) (replay s.history) (most_next (facts_of s.run) (replay s.history))) has
     (all_recording_record (facts_of s.run) (replay s.history) (most_next (facts_of s.run) (replay s.history))) (taken_recorded (facts_of s.run) s.history has.taken) is serving text_is
 
 pub stopped_said : (ps : List (List ℕ)) (s next : Conversation) (sent text now : List ℕ) → HasSaid ps s (sent ++ text) → next ≡ record s { history = stopped (facts_of s.run) s.history } → IsServing next.run (replay next.history)
-    → now ≡ text ++ events s.run s.greeted (replay s.history) (stop_entries (facts_of s.run) (replay s.history)) → HasSaid ps next (sent ++ now)
+    → now ≡ text ++ events s.run s.client.greeted (replay s.history) (stop_entries (facts_of s.run) (replay s.history)) → HasSaid ps next (sent ++ now)
 stopped_said ps s next sent text now has is serving text_is =
     said_step ps s next sent text now (stop_entries (facts_of s.run) (replay s.history)) has (all_recording_stop (facts_of s.run) (replay s.history)) (taken_stopped (facts_of s.run) s.history has.taken) is serving text_is
 
 abbrev with_entry : Conversation → List ℕ → Conversation
-with_entry s p = record s { history = s.history ++ packet_entry s (asked p) ∷ []; greeted = s.greeted || greets (asked p) }
+with_entry s p = record s { history = s.history ++ packet_entry s (asked p) ∷ []; client = client_after s.client (asked p) }
 
 abbrev packet_bytes : Conversation → List ℕ → List ℕ
-packet_bytes s p = packet_text (answer_in s.run s.greeted (moment_of (after (replay s.history) (packet_entry s (asked p)))) (asked p)) ++ event s.run (s.greeted || greets (asked p)) (replay s.history) (packet_entry s (asked p))
+packet_bytes s p = packet_text (answer_in s.run s.client (moment_of (after (replay s.history) (packet_entry s (asked p)))) (asked p)) ++ event s.run (client_after s.client (asked p)).greeted (replay s.history) (packet_entry s (asked p))
 
 packet_said : (ps : List (List ℕ)) (s next : Conversation) (sent text now p : List ℕ) → HasSaid ps s (sent ++ text) → next ≡ with_entry s p → now ≡ text ++ packet_bytes s p → HasSaid (ps ++ p ∷ []) next (sent ++ now)
 packet_said ps s next sent text now p has is text_is =
@@ -69,9 +69,9 @@ batch_is s one two recorded_is stopped_is = stopped_is ∙ ap after_stop recorde
 pub packet_served : (ps : List (List ℕ)) (s one two three : Conversation) (sent t0 t1 t2 t3 p : List ℕ) → HasServed ps s (sent ++ t0)
     → one ≡ with_entry s p → t1 ≡ t0 ++ packet_bytes s p
     → two ≡ after_record one → IsServing two.run (replay two.history)
-    → t2 ≡ t1 ++ events one.run one.greeted (replay one.history) (record_entries (facts_of one.run) (replay one.history) (most_next (facts_of one.run) (replay one.history)))
+    → t2 ≡ t1 ++ events one.run one.client.greeted (replay one.history) (record_entries (facts_of one.run) (replay one.history) (most_next (facts_of one.run) (replay one.history)))
     → three ≡ after_stop two → IsServing three.run (replay three.history)
-    → t3 ≡ t2 ++ events two.run two.greeted (replay two.history) (stop_entries (facts_of two.run) (replay two.history))
+    → t3 ≡ t2 ++ events two.run two.client.greeted (replay two.history) (stop_entries (facts_of two.run) (replay two.history))
     → HasServed (ps ++ p ∷ []) three (sent ++ t3)
 packet_served ps s one two three sent t0 t1 t2 t3 p has one_is t1_is two_is two_serving t2_is three_is three_serving t3_is =
     let first = packet_said ps s one sent t0 t1 p has.has_said one_is t1_is in

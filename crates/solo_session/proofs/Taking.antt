@@ -9,7 +9,7 @@ use Rattle.circuit.specs.Rounds.{Run}
 use Rattle.hall_core.specs.Facts.{facts_of}
 use Rattle.hall_core.specs.Laws.{Taken, one_more, is_recording}
 use Rattle.hall_core.specs.Legal.{HitsAsSaid, Legal, Meets, RunFacts, allowed, is_open, is_over, is_true, some_open}
-use Rattle.hall_core.specs.Replay.{State, after, replay}
+use Rattle.hall_core.specs.Replay.{Replayed, after, replay}
 use Rattle.hall_core.specs.declared.entry.Act.{Act}
 use Rattle.hall_core.specs.declared.entry.Entry.{Entry}
 use Rattle.hall_core.specs.declared.entry.Entry.TheVariants as entry
@@ -24,7 +24,7 @@ use Rattle.solo_session.specs.Session.{IsAhead, IsServing}
 
 -- ---- what is recorded
 
-pub all_recording_record : (facts : RunFacts) (s : State) (m : ℕ) → list_all is_recording (record_entries facts s m) ≡ true
+pub all_recording_record : (facts : RunFacts) (s : Replayed) (m : ℕ) → list_all is_recording (record_entries facts s m) ≡ true
 all_recording_record facts s zero = refl
 all_recording_record facts s (suc m) = refl
 
@@ -32,7 +32,7 @@ all_recording_if : (b : Bool) → list_all is_recording (if b then entry.Unsettl
 all_recording_if true = refl
 all_recording_if false = refl
 
-pub all_recording_stop : (facts : RunFacts) (s : State) → list_all is_recording (stop_entries facts s) ≡ true
+pub all_recording_stop : (facts : RunFacts) (s : Replayed) → list_all is_recording (stop_entries facts s) ≡ true
 all_recording_stop facts s = all_recording_if (may_stop facts s)
 
 -- the greatest number that passes, where it is not 0, passes
@@ -66,7 +66,7 @@ hits_as_said facts n m (goal.To g kinds) none = (
 )
 hits_as_said facts n m goal.Over none = tt {0}
 
-record_meets : (facts : RunFacts) (s : State) (m : ℕ) → (nat_le (s.n + suc m) facts.length && not (some_hits facts s.goal s.n (suc m - 1))) ≡ true → Meets facts s (record_of facts s (suc m))
+record_meets : (facts : RunFacts) (s : Replayed) (m : ℕ) → (nat_le (s.n + suc m) facts.length && not (some_hits facts s.goal s.n (suc m - 1))) ≡ true → Meets facts s (record_of facts s (suc m))
 record_meets facts s m passes =
     let parts = and_parts (nat_le (s.n + suc m) facts.length) (not (some_hits facts s.goal s.n (suc m - 1))) passes in
     let before : suc m - 1 ≡ m = omega arith in
@@ -106,7 +106,7 @@ taken_stopped facts h taken = taken_stop facts h (may_stop facts (replay h)) ref
 pub taken_packet : (facts : RunFacts) (h : List Entry) (what : Act) → allowed facts.count (replay h) (entry.Packet 0 what) ≡ true → Taken facts h → Taken facts (h ++ entry.Packet 0 what ∷ [])
 taken_packet facts h what may taken = one_more taken (entry.Packet 0 what) (record { allows = may; meets = tt {0} })
 
-goes_on : (run : Run) (s : State) (g : Goal) → IsAhead run s g → is_over g ≡ false
+goes_on : (run : Run) (s : Replayed) (g : Goal) → IsAhead run s g → is_over g ≡ false
 goes_on run s goal.Hold ahead = refl
 goes_on run s (goal.To g kinds) ahead = refl
 goes_on run s goal.Over ahead = absurd ahead
@@ -118,15 +118,15 @@ some_recorded n some = grind (arith, nat_tests)
 follows : (over first begins may : Bool) → over ≡ false → first ≡ false → may ≡ true → (not over && (if first then begins else may)) ≡ true
 follows over first begins may on behind is = ap (λ o. not o && (if first then begins else may)) on ∙ ap (λ b. if b then begins else may) behind ∙ is
 
-close_allowed : (run : Run) (s : State) (cause : Why) → IsServing run s → allowed run.count s (entry.Close 0 cause) ≡ true
+close_allowed : (run : Run) (s : Replayed) (cause : Why) → IsServing run s → allowed run.count s (entry.Close 0 cause) ≡ true
 close_allowed run s cause serving =
     follows (is_over s.goal) (s.n == 0) false (is_open s 0) (goes_on run s s.goal serving.ahead) (some_recorded s.n serving.some)
     (ap (λ cs. is_true (slice_get cs 0)) serving.clients)
 
-none_open : (s : State) (cause : Why) → s.clients ≡ true ∷ [] → some_open (after s (entry.Close 0 cause)) ≡ false
+none_open : (s : Replayed) (cause : Why) → s.clients ≡ true ∷ [] → some_open (after s (entry.Close 0 cause)) ≡ false
 none_open s cause is = ap (λ cs. list_any (λ one. one) (slice_set cs 0 false)) is
 
-end_allowed : (run : Run) (s : State) (cause : Why) → IsServing run s → allowed run.count (after s (entry.Close 0 cause)) entry.End ≡ true
+end_allowed : (run : Run) (s : Replayed) (cause : Why) → IsServing run s → allowed run.count (after s (entry.Close 0 cause)) entry.End ≡ true
 end_allowed run s cause serving =
     follows (is_over s.goal) (s.n == 0) s.unsettled (not (some_open (after s (entry.Close 0 cause)))) (goes_on run s s.goal serving.ahead) (some_recorded s.n serving.some)
     (ap not (none_open s cause serving.clients))

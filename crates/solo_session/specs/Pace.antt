@@ -6,7 +6,7 @@ use Rattle.frame_zero.specs.Packets.{packets, wholes, has_too_long}
 use Rattle.hall_core.specs.Batches.{may_stop, most_recorded, record_of}
 use Rattle.hall_core.specs.Facts.{facts_of}
 use Rattle.hall_core.specs.Legal.{RunFacts}
-use Rattle.hall_core.specs.Replay.{State, replay}
+use Rattle.hall_core.specs.Replay.{Replayed, replay}
 use Rattle.hall_core.specs.declared.entry.Entry.{Entry}
 use Rattle.hall_core.specs.declared.entry.Entry.TheVariants as entry
 use Rattle.hall_core.specs.declared.entry.Why.TheVariants as why
@@ -19,15 +19,15 @@ abbrev pub batch_size : ℕ
 batch_size = 256
 
 -- the record of so many samples; of none there is no entry
-abbrev pub record_entries : RunFacts → State → ℕ → List Entry
+abbrev pub record_entries : RunFacts → Replayed → ℕ → List Entry
 record_entries facts s zero = []
 record_entries facts s (suc m) = record_of facts s (suc m) ∷ []
 
 -- the most samples, up to the size of a batch, that may be recorded next
-abbrev pub most_next : RunFacts → State → ℕ
+abbrev pub most_next : RunFacts → Replayed → ℕ
 most_next facts s = most_recorded batch_size facts s
 
-abbrev pub stop_entries : RunFacts → State → List Entry
+abbrev pub stop_entries : RunFacts → Replayed → List Entry
 stop_entries facts s = if may_stop facts s then entry.Unsettled ∷ [] else []
 
 abbrev pub recorded : RunFacts → List Entry → List Entry

@@ -4,41 +4,41 @@ use Rattle.circuit.specs.Rounds.{Run, run_length}
 use Rattle.frame_zero.specs.Packets.{packets, too_long, whole}
 use Rattle.hall_core.specs.Facts.{facts_of}
 use Rattle.hall_core.specs.Laws.{Taken}
-use Rattle.hall_core.specs.Replay.{State, replay}
+use Rattle.hall_core.specs.Replay.{Replayed, replay}
 use Rattle.hall_core.specs.declared.entry.Act.{Act}
 use Rattle.hall_core.specs.declared.entry.Act.TheVariants as act
 use Rattle.hall_core.specs.declared.entry.Entry.{Entry}
 use Rattle.hall_core.specs.declared.entry.Entry.TheVariants as entry
 use Rattle.hall_core.specs.declared.entry.Goal.{Goal}
 use Rattle.hall_core.specs.declared.entry.Goal.TheVariants as goal
-use Rattle.session_core.specs.Refusals.{Asking, is_greeted}
+use Rattle.session_core.specs.Refusals.{Asking, Client, client_of}
 use Rattle.session_core.specs.Replies.{act_in}
 use Rattle.session_core.specs.Said.{Agrees, packets_in, said}
 use Rattle.solo_session.specs.Pace.{opening, with_packets}
 
--- what a session keeps: the samples that it follows, the history so far, and whether the client was greeted
+-- what a session keeps: the samples that it follows, the history so far, and what its packets made of the client
 pub record Over (F : Type 0) : Type 0 where
   pub samples : F
   pub history : List Entry
-  pub greeted : Bool
+  pub client : Client
 
 -- the same, by the circuit and its samples
 pub record Conversation : Type 0 where
   pub run : Run
   pub history : List Entry
-  pub greeted : Bool
+  pub client : Client
 
 abbrev pub conversation : {F : Type 0} → (F → Run) → Over F → Conversation
-conversation run_of s = record { run = run_of s.samples; history = s.history; greeted = s.greeted }
+conversation run_of s = record { run = run_of s.samples; history = s.history; client = s.client }
 
 -- a goal goes beyond what is recorded, and no further than there are samples
-abbrev pub IsAhead : Run → State → Goal → Type 0
+abbrev pub IsAhead : Run → Replayed → Goal → Type 0
 IsAhead run s goal.Hold = ⊤
 IsAhead run s (goal.To g kinds) = (s.n < g) × (g ≤ run.count) × (s.unsettled ≡ false)
 IsAhead run s goal.Over = ⊥
 
 -- the client is open, sample 0 is recorded, and the recorded samples settle
-pub record IsServing (run : Run) (s : State) : Type 0 where
+pub record IsServing (run : Run) (s : Replayed) : Type 0 where
   pub clients : s.clients ≡ true ∷ []
   pub some : 1 ≤ s.n
   pub settled : s.n ≤ run_length run
@@ -56,12 +56,12 @@ is_run_act act.Pause = false
 
 -- the entry of a packet
 abbrev pub packet_entry : Conversation → Asking → Entry
-packet_entry s read = entry.Packet 0 (act_in s.run s.greeted read)
+packet_entry s read = entry.Packet 0 (act_in s.run s.client read)
 
 -- these are the client's packets so far, what it was said is theirs, and the history is legal
 pub record HasSaid (packets : List (List ℕ)) (s : Conversation) (bytes : List ℕ) : Type 0 where
   pub serving : IsServing s.run (replay s.history)
-  pub greeted : s.greeted ≡ is_greeted packets
+  pub client : s.client ≡ client_of packets
   pub counted : packets_in 0 s.history ≡ length packets
   pub taken : Taken (facts_of s.run) s.history
   pub agrees : Agrees s.run packets 0 s.history

@@ -11,7 +11,7 @@ ghost use Rattle.hall_core.specs.Replay.{after, reaches, replay};
 ghost use Rattle.hall_core.specs.declared.entry.Entry.TheVariants as entries;
 ghost use Rattle.proto_packets.specs.Asked.{asked};
 ghost use Rattle.proto_packets.specs.declared.fault.PacketFault.TheVariants as faults;
-ghost use Rattle.proto_replies.specs.Data.{packet_text};
+ghost use Rattle.proto_replies.specs.Data.{answer_data, packet_text};
 ghost use Rattle.solo_session.specs.Pace as paces;
 ghost use Rattle.session_core.specs.Refusals as refusals;
 ghost use Rattle.session_core.specs.Replies as replies;
@@ -19,11 +19,12 @@ ghost use Rattle.session_core.specs.Said.{last_words};
 ghost use Rattle.solo_session.specs.Session.{HasSaid, HasServed, IsRunning, IsServedOf, IsServing, packet_entry, conversation};
 ghost use Rattle.session_core.specs.Replies.{events};
 
-use crate::asked::{error_of, is_greeted_by, is_want_of_memory};
+use crate::asked::is_want_of_memory;
 use frame_zero::{Frame, Framer};
 use hall_core::{Act, Entry, Followed, Goal, Hall, History, Why};
 use proto_packets::{PacketFault, Request, read_packet};
 use proto_replies::{Answer, Cause, ErrorKind, RunState, reply};
+use session_core::Client;
 use sim_base::{NoMemory, Time};
 use std::alloc::Global;
 use std::marker::Model;
@@ -39,7 +40,7 @@ const CLIENT: u64 = 0;
 pub struct Session<F: Followed> {
     samples: F,
     hall: Hall,
-    greeted: bool,
+    client: Client,
     unsettled: bool,
 }
 
@@ -50,7 +51,7 @@ impl<F: Followed> Model for Session<F> {
 
     ghost Value = { Over F };
 
-    ghost view = { λ s. record { samples = s.samples; history = s.hall.history; greeted = s.greeted } };
+    ghost view = { λ s. record { samples = s.samples; history = s.hall.history; client = s.client } };
 
     ghost invariant = { λ s. (s.hall.count ≡ (F.run s.samples).count) × (s.unsettled ≡ (replay s.hall.history).unsettled) };
 }
@@ -58,13 +59,13 @@ impl<F: Followed> Model for Session<F> {
 impl<F: Followed> Session<F> {
     /// The session of a run before sample 0.
     pub fn new(alloc: Global, samples: F) -> Result<Session<F>, NoMemory>
-        ensures { IfOk result (λ s. s ≡ record { samples = samples; history = []; greeted = false }) }
+        ensures { IfOk result (λ s. s ≡ record { samples = samples; history = []; client = refusals.new_client }) }
     {
         let hall = Hall::new(alloc, samples.count())?;
         Ok(Session {
             samples,
             hall,
-            greeted: false,
+            client: Client::new(),
             unsettled: false,
         })
     }
@@ -85,7 +86,7 @@ impl<F: Followed> Session<F> {
     /// whether the client is.
     pub fn open(&mut self) -> Result<bool, NoMemory>
         requires { self.old.history ≡ [] }
-        ensures opened { result ≡ Ok true → self.old.greeted ≡ false → HasServed [] (conversation F.run self.new) [] }
+        ensures opened { result ≡ Ok true → self.old.client ≡ refusals.new_client → HasServed [] (conversation F.run self.new) [] }
         ensures served { result ≡ Ok true → (1 ≤ run_length (F.run self.old.samples)) × (self.new ≡ record self.old { history = paces.opening }) }
         ensures unsettled { result ≡ Ok false → (run_length (F.run self.old.samples) ≡ 0) × (self.new ≡ record self.old { history = entries.Unsettled ∷ entries.End ∷ [] }) }
     {
@@ -169,7 +170,7 @@ impl<F: Followed> Session<F> {
 
     fn answer_to(&self, read: &Result<Request, PacketFault>, error: Option<ErrorKind>) -> Answer
         requires serving { IsServing (F.run self.now.samples) (replay self.now.history) }
-        ensures { result ≡ replies.answer_unless error (replies.answer_to (F.run self.now.samples) (moment_of (replay self.now.history)) read.now) }
+        ensures { answer_data result ≡ replies.answer_unless error (replies.answer_to (F.run self.now.samples) (moment_of (replay self.now.history)) read.now) }
     {
         match (error, read) {
             (Some(kind), _) => Answer::Error(kind),
@@ -208,10 +209,10 @@ impl<F: Followed> Session<F> {
         requires recording { is_recording entry ≡ true }
         requires serving { IsServing (F.run self.old.samples) (after (replay self.old.history) entry) }
         ensures session { OnOk result (self.new ≡ record self.old { history = self.old.history ++ entry ∷ [] }) }
-        ensures text { OnOk result (text.new.items ≡ text.old.items ++ replies.event (F.run self.old.samples) self.old.greeted (replay self.old.history) entry) }
+        ensures text { OnOk result (text.new.items ≡ text.old.items ++ replies.event (F.run self.old.samples) self.old.client.greeted (replay self.old.history) entry) }
     {
         self.enter(entry)?;
-        if self.greeted && self.hall.goal() == Goal::Hold {
+        if self.client.is_greeted() && self.hall.goal() == Goal::Hold {
             self.push_event(alloc, entry, text)?;
         }
         Ok(())
@@ -236,7 +237,7 @@ impl<F: Followed> Session<F> {
         requires serving { IsServing (F.run self.old.samples) (replay self.old.history) }
         ensures session { OnOk result (self.new ≡ record self.old { history = paces.recorded (facts_of (F.run self.old.samples)) self.old.history }) }
         ensures serving { OnOk result (IsServing (F.run self.new.samples) (replay self.new.history)) }
-        ensures text { OnOk result (text.new.items ≡ text.old.items ++ events (F.run self.old.samples) self.old.greeted (replay self.old.history)
+        ensures text { OnOk result (text.new.items ≡ text.old.items ++ events (F.run self.old.samples) self.old.client.greeted (replay self.old.history)
             (paces.record_entries (facts_of (F.run self.old.samples)) (replay self.old.history) (paces.most_next (facts_of (F.run self.old.samples)) (replay self.old.history)))) }
     {
         let more = self.most_next();
@@ -264,7 +265,7 @@ impl<F: Followed> Session<F> {
         requires serving { IsServing (F.run self.old.samples) (replay self.old.history) }
         ensures session { OnOk result (self.new ≡ record self.old { history = paces.stopped (facts_of (F.run self.old.samples)) self.old.history }) }
         ensures serving { OnOk result (IsServing (F.run self.new.samples) (replay self.new.history)) }
-        ensures text { OnOk result (text.new.items ≡ text.old.items ++ events (F.run self.old.samples) self.old.greeted (replay self.old.history)
+        ensures text { OnOk result (text.new.items ≡ text.old.items ++ events (F.run self.old.samples) self.old.client.greeted (replay self.old.history)
             (paces.stop_entries (facts_of (F.run self.old.samples)) (replay self.old.history))) }
     {
         if self.may_stop() {
@@ -293,9 +294,9 @@ impl<F: Followed> Session<F> {
         text: &mut Vec<u8>,
     ) -> Result<(), NoMemory>
         requires { IsServing (F.run self.now.samples) (replay self.now.history) }
-        ensures { OnOk result (text.new.items ≡ text.old.items ++ (if reached && self.now.greeted then packet_text (replies.event_of (F.run self.now.samples) (moment_of (replay self.now.history)) entry) else [])) }
+        ensures { OnOk result (text.new.items ≡ text.old.items ++ (if reached && self.now.client.greeted then packet_text (replies.event_of (F.run self.now.samples) (moment_of (replay self.now.history)) entry) else [])) }
     {
-        if reached && self.greeted {
+        if reached && self.client.is_greeted() {
             self.push_event(alloc, entry, text)?;
         }
         Ok(())
@@ -311,17 +312,17 @@ impl<F: Followed> Session<F> {
     ) -> Result<(), NoMemory>
         requires serving { IsServing (F.run self.old.samples) (replay self.old.history) }
         requires memory { read.now ≢ Err faults.NoMemory }
-        requires act { act ≡ replies.act_in (F.run self.old.samples) self.old.greeted read.now }
+        requires act { act ≡ replies.act_in (F.run self.old.samples) self.old.client read.now }
         requires may { may_act (F.run self.old.samples).count act ≡ true }
-        ensures session { OnOk result (self.new ≡ record self.old { history = self.old.history ++ entries.Packet 0 act ∷ []; greeted = self.old.greeted || refusals.greets read.now }) }
+        ensures session { OnOk result (self.new ≡ record self.old { history = self.old.history ++ entries.Packet 0 act ∷ []; client = refusals.client_after self.old.client read.now }) }
         ensures serving { OnOk result (IsServing (F.run self.new.samples) (replay self.new.history)) }
-        ensures text { OnOk result (text.new.items ≡ text.old.items ++ packet_text (replies.answer_in (F.run self.old.samples) self.old.greeted (moment_of (after (replay self.old.history) (entries.Packet 0 act))) read.now)) }
+        ensures text { OnOk result (text.new.items ≡ text.old.items ++ packet_text (replies.answer_in (F.run self.old.samples) self.old.client (moment_of (after (replay self.old.history) (entries.Packet 0 act))) read.now)) }
     {
-        let error = error_of(self.greeted, read);
+        let error = self.client.refusal(read);
         self.enter(Entry::Packet(CLIENT, act))?;
         let answer = self.answer_to(read, error);
         push_answer(alloc, text, &answer)?;
-        self.greeted = is_greeted_by(self.greeted, read);
+        self.client.take_in(read);
         Ok(())
     }
 
@@ -334,12 +335,12 @@ impl<F: Followed> Session<F> {
     ) -> Result<(), NoMemory>
         requires serving { IsServing (F.run self.old.samples) (replay self.old.history) }
         requires memory { read.now ≢ Err faults.NoMemory }
-        ensures session { OnOk result (self.new ≡ record self.old { history = self.old.history ++ packet_entry (conversation F.run self.old) read.now ∷ []; greeted = self.old.greeted || refusals.greets read.now }) }
+        ensures session { OnOk result (self.new ≡ record self.old { history = self.old.history ++ packet_entry (conversation F.run self.old) read.now ∷ []; client = refusals.client_after self.old.client read.now }) }
         ensures serving { OnOk result (IsServing (F.run self.new.samples) (replay self.new.history)) }
-        ensures text { OnOk result (text.new.items ≡ text.old.items ++ (packet_text (replies.answer_in (F.run self.old.samples) self.old.greeted (moment_of (after (replay self.old.history) (packet_entry (conversation F.run self.old) read.now))) read.now)
-            ++ replies.event (F.run self.old.samples) (self.old.greeted || refusals.greets read.now) (replay self.old.history) (packet_entry (conversation F.run self.old) read.now))) }
+        ensures text { OnOk result (text.new.items ≡ text.old.items ++ (packet_text (replies.answer_in (F.run self.old.samples) self.old.client (moment_of (after (replay self.old.history) (packet_entry (conversation F.run self.old) read.now))) read.now)
+            ++ replies.event (F.run self.old.samples) (refusals.client_after self.old.client read.now).greeted (replay self.old.history) (packet_entry (conversation F.run self.old) read.now))) }
     {
-        let act = self.act_of(read, error_of(self.greeted, read));
+        let act = self.act_of(read, self.client.refusal(read));
         let reached = self.reaches(act);
         self.answer(alloc, read, act, text)?;
         self.tell(alloc, reached, Entry::Packet(CLIENT, act), text)?;
@@ -354,9 +355,9 @@ impl<F: Followed> Session<F> {
         text: &mut Vec<u8>,
     ) -> Result<(), NoMemory>
         requires serving { IsServing (F.run self.old.samples) (replay self.old.history) }
-        ensures session { OnOk result (self.new ≡ record self.old { history = self.old.history ++ packet_entry (conversation F.run self.old) (asked packet.now) ∷ []; greeted = self.old.greeted || refusals.greets (asked packet.now) }) }
-        ensures text { OnOk result (text.new.items ≡ text.old.items ++ (packet_text (replies.answer_in (F.run self.old.samples) self.old.greeted (moment_of (after (replay self.old.history) (packet_entry (conversation F.run self.old) (asked packet.now)))) (asked packet.now))
-            ++ replies.event (F.run self.old.samples) (self.old.greeted || refusals.greets (asked packet.now)) (replay self.old.history) (packet_entry (conversation F.run self.old) (asked packet.now)))) }
+        ensures session { OnOk result (self.new ≡ record self.old { history = self.old.history ++ packet_entry (conversation F.run self.old) (asked packet.now) ∷ []; client = refusals.client_after self.old.client (asked packet.now) }) }
+        ensures text { OnOk result (text.new.items ≡ text.old.items ++ (packet_text (replies.answer_in (F.run self.old.samples) self.old.client (moment_of (after (replay self.old.history) (packet_entry (conversation F.run self.old) (asked packet.now)))) (asked packet.now))
+            ++ replies.event (F.run self.old.samples) (refusals.client_after self.old.client (asked packet.now)).greeted (replay self.old.history) (packet_entry (conversation F.run self.old) (asked packet.now)))) }
         ensures serving { OnOk result (IsServing (F.run self.new.samples) (replay self.new.history)) }
     {
         let read = read_packet(alloc, packet);
@@ -460,7 +461,7 @@ fn cause_of(entry: Entry) -> Cause
 
 /// Puts the packet of an answer behind the text.
 fn push_answer(alloc: Global, text: &mut Vec<u8>, answer: &Answer) -> Result<(), NoMemory>
-    ensures { OnOk result (text.new.items ≡ text.old.items ++ packet_text answer.now) }
+    ensures { OnOk result (text.new.items ≡ text.old.items ++ packet_text (answer_data answer.now)) }
 {
     text.extend_from_slice(&reply(alloc, answer)?)?;
     Ok(())

@@ -5,7 +5,7 @@ use Rattle.cxxsim.proofs.Holding.{unserved_is_held}
 use Rattle.cxxsim.proofs.session.hold.Goals as goal
 
 pub serve-requires : goal.serve-requires
-serve-requires g c = c.open.ensures.opened (c.in_ok-open.was ∙ ap Ok c.if-branch.true) c.requires.greeted
+serve-requires g c = c.open.ensures.opened (c.in_ok-open.was ∙ ap Ok c.if-branch.true) c.requires.client
 
 pub returns-else-branch-clause-held : goal.returns-else-branch-clause-held
 returns-else-branch-clause-held g c =

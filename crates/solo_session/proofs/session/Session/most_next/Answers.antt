@@ -12,7 +12,7 @@ use Rattle.solo_session.proofs.session.Session.most_next.Goals as goal
 
 pub returns-in-To-clause-most : goal.returns-in-To-clause-most
 returns-in-To-clause-most g c =
-    let s : Over g.row.F.Denot = record { samples = c.self.inside.samples; history = c.self.inside.hall.history; greeted = c.self.inside.greeted } in
+    let s : Over g.row.F.Denot = record { samples = c.self.inside.samples; history = c.self.inside.hall.history; client = c.self.inside.client } in
     let serving : IsServing (g.F.Followed.run s.samples) (replay s.history) = subst (λ (x : Over g.row.F.Denot). IsServing (g.F.Followed.run x.samples) (replay x.history)) (sym c.self.view_is) c.requires in
     let most : (replay s.history).n + min (c.in-To.goal - (replay s.history).n) 256 ≡ c.n-n.result + c.min.result = ap (λ (n : ℕ). n + min (c.in-To.goal - n) 256) (sym c.n-n.ensures) ∙ ap (λ (m : ℕ). c.n-n.result + m) (sym c.min.ensures) in
     ap (λ (n : ℕ). c.reach.result - n) c.n-n.ensures
@@ -21,7 +21,7 @@ returns-in-To-clause-most g c =
 
 pub returns-in-To-clause-entry : goal.returns-in-To-clause-entry
 returns-in-To-clause-entry g c =
-    let s : Over g.row.F.Denot = record { samples = c.self.inside.samples; history = c.self.inside.hall.history; greeted = c.self.inside.greeted } in
+    let s : Over g.row.F.Denot = record { samples = c.self.inside.samples; history = c.self.inside.hall.history; client = c.self.inside.client } in
     let serving : IsServing (g.F.Followed.run s.samples) (replay s.history) = subst (λ (x : Over g.row.F.Denot). IsServing (g.F.Followed.run x.samples) (replay x.history)) (sym c.self.view_is) c.requires in
     let m : ℕ = c.reach.result - c.n-n.result in
     ap (λ (x : Over g.row.F.Denot). record_of (facts_of (g.F.Followed.run x.samples)) (replay x.history) m) (sym c.self.view_is)
@@ -29,7 +29,7 @@ returns-in-To-clause-entry g c =
 
 pub returns-in_default : goal.returns-in_default
 returns-in_default g c =
-    let s : Over g.row.F.Denot = record { samples = c.self.inside.samples; history = c.self.inside.hall.history; greeted = c.self.inside.greeted } in
+    let s : Over g.row.F.Denot = record { samples = c.self.inside.samples; history = c.self.inside.hall.history; client = c.self.inside.client } in
     let serving : IsServing (g.F.Followed.run s.samples) (replay s.history) = subst (λ (x : Over g.row.F.Denot). IsServing (g.F.Followed.run x.samples) (replay x.history)) (sym c.self.view_is) c.requires in
     let held : (g : ℕ) (kinds : Kinds) → (replay s.history).goal ≡ the_goal.To g kinds → ⊥ = λ g kinds e. c.in_default.not-To g kinds (c.goal.ensures ∙ e) in
     record {

@@ -1,7 +1,7 @@
 use Rattle.std.proofs.Common.{◌≡◌, ◌++◌, true, false, ap, sym, ◌∙◌, subst, append-nil, arith}
 use Rattle.hall_core.specs.Facts.{facts_of}
 use Rattle.hall_core.specs.Legal.{allowed}
-use Rattle.hall_core.specs.Replay.{State, after, replay}
+use Rattle.hall_core.specs.Replay.{Replayed, after, replay}
 use Rattle.hall_core.proofs.Progress.{replay-push}
 use Rattle.hall_core.specs.declared.entry.Entry.TheVariants as entry
 use Rattle.solo_session.specs.Session.{IsRunning, IsServing, Over}
@@ -31,7 +31,7 @@ enter_and_tell-requires-clause-serving g c =
 pub returns-in_ok-enter_and_tell-clause-serving : goal.returns-in_ok-enter_and_tell-clause-serving
 returns-in_ok-enter_and_tell-clause-serving g c =
     subst (λ (x : Over g.row.F.Denot). IsServing (g.F.Followed.run x.samples) (replay x.history)) (sym c.in_ok-enter_and_tell.ensures.session)
-    (subst (λ (x : State). IsServing (g.F.Followed.run c.most_next-more.new.self.samples) x) (sym (replay-push c.most_next-more.new.self.history (entry.Record c.most_next-more.result false)))
+    (subst (λ (x : Replayed). IsServing (g.F.Followed.run c.most_next-more.new.self.samples) x) (sym (replay-push c.most_next-more.new.self.history (entry.Record c.most_next-more.result false)))
     (subst (λ (x : Over g.row.F.Denot). IsServing (g.F.Followed.run x.samples) (after (replay x.history) (entry.Record c.most_next-more.result false))) (sym c.most_next-more.ensures.same)
     (record_served (g.F.Followed.run c.args.self.now.samples) (replay c.args.self.now.history) c.most_next-more.result c.requires.serving
     (settles_most (facts_of (g.F.Followed.run c.args.self.now.samples)) (replay c.args.self.now.history) c.most_next-more.result c.most_next-more.ensures.most c.if-more-gt0.true)
@@ -40,11 +40,11 @@ returns-in_ok-enter_and_tell-clause-serving g c =
 pub returns-in_ok-enter_and_tell-clause-text : goal.returns-in_ok-enter_and_tell-clause-text
 returns-in_ok-enter_and_tell-clause-text g c =
     c.in_ok-enter_and_tell.ensures.text
-    ∙ ap (λ (x : Over g.row.F.Denot). c.args.text.now.items ++ event (g.F.Followed.run x.samples) x.greeted (replay x.history) (entry.Record c.most_next-more.result false)) c.most_next-more.ensures.same
-    ∙ ap (λ l. c.args.text.now.items ++ l) (sym (events_recorded (g.F.Followed.run c.args.self.now.samples) c.args.self.now.greeted (facts_of (g.F.Followed.run c.args.self.now.samples)) (replay c.args.self.now.history) c.most_next-more.result c.if-more-gt0.true c.most_next-more.ensures.entry))
-    ∙ ap (λ m. c.args.text.now.items ++ events (g.F.Followed.run c.args.self.now.samples) c.args.self.now.greeted (replay c.args.self.now.history) (record_entries (facts_of (g.F.Followed.run c.args.self.now.samples)) (replay c.args.self.now.history) m)) c.most_next-more.ensures.most
+    ∙ ap (λ (x : Over g.row.F.Denot). c.args.text.now.items ++ event (g.F.Followed.run x.samples) x.client.greeted (replay x.history) (entry.Record c.most_next-more.result false)) c.most_next-more.ensures.same
+    ∙ ap (λ l. c.args.text.now.items ++ l) (sym (events_recorded (g.F.Followed.run c.args.self.now.samples) c.args.self.now.client.greeted (facts_of (g.F.Followed.run c.args.self.now.samples)) (replay c.args.self.now.history) c.most_next-more.result c.if-more-gt0.true c.most_next-more.ensures.entry))
+    ∙ ap (λ m. c.args.text.now.items ++ events (g.F.Followed.run c.args.self.now.samples) c.args.self.now.client.greeted (replay c.args.self.now.history) (record_entries (facts_of (g.F.Followed.run c.args.self.now.samples)) (replay c.args.self.now.history) m)) c.most_next-more.ensures.most
 
 pub returns-else-more-gt0-clause-text : goal.returns-else-more-gt0-clause-text
 returns-else-more-gt0-clause-text g c =
     sym (append-nil c.args.text.now.items)
-    ∙ ap (λ l. c.args.text.now.items ++ l) (sym (events_unrecorded (g.F.Followed.run c.args.self.now.samples) c.args.self.now.greeted (facts_of (g.F.Followed.run c.args.self.now.samples)) (replay c.args.self.now.history) (most_next (facts_of (g.F.Followed.run c.args.self.now.samples)) (replay c.args.self.now.history)) (sym c.most_next-more.ensures.most ∙ omega (arith, c.if-more-gt0.false))))
+    ∙ ap (λ l. c.args.text.now.items ++ l) (sym (events_unrecorded (g.F.Followed.run c.args.self.now.samples) c.args.self.now.client.greeted (facts_of (g.F.Followed.run c.args.self.now.samples)) (replay c.args.self.now.history) (most_next (facts_of (g.F.Followed.run c.args.self.now.samples)) (replay c.args.self.now.history)) (sym c.most_next-more.ensures.most ∙ omega (arith, c.if-more-gt0.false))))

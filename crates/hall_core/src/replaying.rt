@@ -1,27 +1,27 @@
-//! What stands after the entries so far.
+//! What a history says so far.
 ghost use Rattle.std.specs.Prelude.{◌≡◌, ◌<◌, ◌≤◌, ◌+◌, ◌^◌, [], true, OnOk, OnErr, IfOk, IsOk};
-ghost use Rattle.hall_core.specs.Hall.{state, room};
-ghost use Rattle.hall_core.specs.Replay.{after, start};
+ghost use Rattle.hall_core.specs.Hall.{replayed, room};
+ghost use Rattle.hall_core.specs.Replay.{after, unbegun};
 ghost use Rattle.hall_core.specs.Legal.{allowed, is_open, some_open, lets, may_begin, may_follow, may_act, is_over};
 
 use crate::entry::{Act, Entry, Goal};
 use sim_base::NoMemory;
 use std::alloc::Global;
 
-/// The state that a history leaves, kept up entry by entry.
+/// What a history says so far, kept up entry by entry.
 #[derive(Debug, Drop)]
-pub struct Standing {
+pub struct Replaying {
     pub n: u64,
     pub goal: Goal,
     pub unsettled: bool,
     pub clients: Vec<bool>,
 }
 
-impl Standing {
-    pub fn new(alloc: Global) -> Standing
-        ensures { state result ≡ start }
+impl Replaying {
+    pub fn new(alloc: Global) -> Replaying
+        ensures { replayed result ≡ unbegun }
     {
-        Standing {
+        Replaying {
             n: 0,
             goal: Goal::Hold,
             unsettled: false,
@@ -30,7 +30,7 @@ impl Standing {
     }
 
     fn is_open(&self, client: u64) -> bool
-        ensures { result ≡ is_open (state self.now) client }
+        ensures { result ≡ is_open (replayed self.now) client }
     {
         match self.clients.get(client as usize) {
             Some(open) => *open,
@@ -39,14 +39,14 @@ impl Standing {
     }
 
     fn some_open(&self) -> bool
-        ensures { result ≡ some_open (state self.now) }
+        ensures { result ≡ some_open (replayed self.now) }
     {
         self.clients.iter().any(|open| *open)
     }
 
     /// The goal lets so many more samples be recorded.
     fn lets(&self, more: u64) -> bool
-        ensures { result ≡ lets (state self.now).goal ((state self.now).n + more) }
+        ensures { result ≡ lets (replayed self.now).goal ((replayed self.now).n + more) }
     {
         match self.goal {
             Goal::To(goal, _) => match self.n.checked_add(more) {
@@ -58,7 +58,7 @@ impl Standing {
     }
 
     fn may_begin(&self, entry: Entry) -> bool
-        ensures { result ≡ may_begin (state self.now) entry }
+        ensures { result ≡ may_begin (replayed self.now) entry }
     {
         match entry {
             Entry::Record(more, hit) => more == 1 && !hit && !self.unsettled,
@@ -69,7 +69,7 @@ impl Standing {
     }
 
     fn may_follow(&self, count: u64, entry: Entry) -> bool
-        ensures { result ≡ may_follow count (state self.now) entry }
+        ensures { result ≡ may_follow count (replayed self.now) entry }
     {
         match entry {
             Entry::Open(client) => client == self.clients.len() as u64,
@@ -82,7 +82,7 @@ impl Standing {
     }
 
     pub fn allows(&self, count: u64, entry: Entry) -> bool
-        ensures { result ≡ allowed count (state self.now) entry }
+        ensures { result ≡ allowed count (replayed self.now) entry }
     {
         if self.goal == Goal::Over {
             return false;
@@ -96,9 +96,9 @@ impl Standing {
 
     /// Takes an entry in that is allowed next.
     pub fn take_in(&mut self, count: u64, entry: Entry)
-        requires next { allowed count (state self.old) entry ≡ true }
+        requires next { allowed count (replayed self.old) entry ≡ true }
         requires room { 0 < room self.old }
-        ensures after { state self.new ≡ after (state self.old) entry }
+        ensures after { replayed self.new ≡ after (replayed self.old) entry }
         ensures room { room self.old ≤ room self.new + 1 }
     {
         match entry {
@@ -123,8 +123,8 @@ impl Standing {
     }
 
     fn record(&mut self, count: u64, more: u64, hit: bool)
-        requires { allowed count (state self.old) (Entry.Record more hit) ≡ true }
-        ensures after { state self.new ≡ after (state self.old) (Entry.Record more hit) }
+        requires { allowed count (replayed self.old) (Entry.Record more hit) ≡ true }
+        ensures after { replayed self.new ≡ after (replayed self.old) (Entry.Record more hit) }
         ensures room { room self.new ≡ room self.old }
     {
         match self.goal {
