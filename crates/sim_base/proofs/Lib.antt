@@ -1,5 +1,6 @@
 pub mod TimeTexts
 pub mod Words
+pub mod Parts
 pub mod Field
 pub mod Copies
 pub mod HexadecimalTexts

@@ -47,6 +47,16 @@ impl Bits {
         })
     }
 
+    /// The `width` bits from `at` on, as a value of their own.
+    pub fn part(&self, alloc: Global, at: u32, width: u32) -> Result<Bits, NoMemory>
+        requires { at + width ≤ self.now.width }
+        ensures { IfOk result (λ part. part ≡ bit_value width (self.now.number / 2 ^ at % 2 ^ width)) }
+    {
+        let mut part = Bits::zero(alloc, width)?;
+        part.copy(0, self, at, width);
+        Ok(part)
+    }
+
     /// Makes the number 0.
     pub fn clear(&mut self)
         ensures { self.new ≡ zeros self.old.width }

@@ -1,6 +1,8 @@
 //! Values of bits that are read where they stand.
-ghost use Rattle.std.specs.Prelude.{◌≡◌, ◌+◌, ◌/◌, ◌%◌, ◌^◌, ◌<◌, ◌≤◌, length};
+ghost use Rattle.std.specs.Prelude.{◌≡◌, ◌+◌, ◌*◌, ◌/◌, ◌%◌, ◌^◌, ◌<◌, ◌≤◌, length, slice_get, Some};
 ghost use Rattle.sim_base.specs.BitValue.{AreWords, bit_value, number_of_words};
+ghost use Rattle.sim_base.specs.Parts.{halves_of};
+ghost use Rattle.sim_base.specs.Shape.{words_of_width};
 
 use crate::bits::field_of;
 use std::marker::Model;
@@ -98,5 +100,16 @@ impl<'a> BitsView<'a> {
     {
         let _ = &self.width;
         field_of(self.words, at, n)
+    }
+
+    /// The word of 32 bits at this place of those that the value has, the least being the first.
+    #[inline]
+    pub fn half(&self, place: u32) -> u32
+        requires { place < words_of_width self.now.width }
+        ensures value { result ≡ self.now.number / 2 ^ (place * 32) % 2 ^ 32 }
+        ensures listed { slice_get (halves_of self.now) place ≡ Some result }
+    {
+        let _ = self.width();
+        field_of(self.words, 32 * place, 32) as u32
     }
 }
