@@ -13,7 +13,8 @@ use Rattle.circuit.specs.declared.cell.Cell.{Cell}
 use Rattle.circuit.specs.declared.cell.Op.TheVariants as op
 use Rattle.circuit.proofs.Same.{gathered_same}
 use Rattle.sim_base.proofs.Field.{bit_at_mod}
-use Rattle.signal_words.proofs.Numbers.{field_gathered, whole_field}
+use Rattle.sim_base.proofs.Parts.{whole_field}
+use Rattle.signal_words.proofs.Numbers.{field_gathered}
 use Rattle.signal_words.proofs.Told.{eq_from}
 use Rattle.cell_wide.specs.Words.{low_of_number, low_of_fill, low_of_chain}
 use Rattle.cell_wide.proofs.Outputs.{output_of}

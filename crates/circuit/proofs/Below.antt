@@ -13,7 +13,8 @@ use Rattle.circuit.specs.Signal.{Digits, digits_of_nets, piece_width, piece_numb
 use Rattle.circuit.specs.State.{State, Stored, is_inside, addressed_row}
 use Rattle.circuit.specs.Valuation.{valuation}
 use Rattle.circuit.specs.Next.{RegisterInputs, register_inputs, has_edge, is_active, next_by, next_number, next_numbers, all_marked, next_row, next_rows, transparent_read, next_read, next_reads, next_stored, next_mems, next}
-use Rattle.circuit.specs.Rounds.{Run, Standing, parts, settled, settled_within, standing_after, start_state, start_stored}
+use Rattle.sim_base.specs.Parts.{parts}
+use Rattle.circuit.specs.Rounds.{Run, Standing, settled, settled_within, standing_after, start_state, start_stored, settling}
 use Rattle.circuit.specs.State.{same_state}
 use Rattle.circuit.specs.Valid.{address_width, counts_fit, cell_fits, drive_fits, drivers_of, is_valid, mem_fits, ports_of_kind, read_fits, register_fits, register_has, sig_fits, sig_of, widest, width_where, write_fits}
 use Rattle.circuit.specs.Below.{AreConstantsBelow, AreRowsBelow, AreValuesBelow, IsBelow, IsRegisterBelow, IsStateBelow}
@@ -241,7 +242,7 @@ next_below c valid values s before now small = record {
 -- what a round keeps, some rounds keep
 module _ (c : Circuit) (P : State → Type 0) (later : (s : State) (before now : List ℕ) → P s → P (next c s before now)) where
   rounds_keep : (rounds : ℕ) (s : State) (before inputs : List ℕ) (t : Standing) → settled_within rounds c s before inputs ≡ Some t → P s → P t.state
-  unfolding settled_within
+  unfolding settling
   rounds_keep zero s before inputs t is p = absurd (none-some t is)
   rounds_keep (suc rounds) s before inputs t is p = elim (cases_Bool (same_state (next c s before (valuation c s inputs)) s)) [
     | inl same ↦ subst (λ (x : Standing). P x.state) (same_Some _ t (sym (cond-true (same_state (next c s before (valuation c s inputs)) s) _ _ same) ∙ is)) p

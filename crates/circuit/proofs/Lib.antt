@@ -18,3 +18,5 @@ mod Grown
 mod Apart
 mod FirstSlots
 mod Choices
+pub mod Signals
+mod SigParts

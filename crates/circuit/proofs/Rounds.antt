@@ -5,7 +5,7 @@ use Rattle.std.proofs.lemmas.Option.{none-some, same_Some}
 use Rattle.circuit.specs.State.{State, same_state}
 use Rattle.circuit.specs.Valuation.{valuation}
 use Rattle.circuit.specs.Next.{next}
-use Rattle.circuit.specs.Rounds.{FollowOn, Round, Run, Standing, nets_after, rounds_at, rounds_from, rounds_within, settled, settled_within, standing_after, standing_at}
+use Rattle.circuit.specs.Rounds.{FollowOn, Round, Run, Standing, nets_after, rounds_at, rounds_from, rounds_within, settled, settled_within, standing_after, standing_at, settling}
 use Rattle.circuit.specs.Shown.{fails, fires_at, fires_by}
 use Rattle.circuit.specs.declared.netlist.Circuit.{Circuit}
 use Rattle.circuit.specs.declared.diagnostic.Diag.{Diag}
@@ -36,7 +36,7 @@ all_behind false s later rs n e f = f e
 -- ---- the rounds of a sample
 
 pub follows : (rounds : ℕ) (c : Circuit) (state : State) (before inputs : List ℕ) → FollowOn before (rounds_within rounds c state before inputs)
-unfolding rounds_within FollowOn
+unfolding settling FollowOn
 follows zero c state before inputs = tt
 follows (suc rounds) c state before inputs =
     let now = valuation c state inputs in
@@ -45,7 +45,7 @@ follows (suc rounds) c state before inputs =
 
 pub ends : (rounds : ℕ) (c : Circuit) (state : State) (before inputs : List ℕ) (t : Standing) → settled_within rounds c state before inputs ≡ Some t
     → nets_after before (rounds_within rounds c state before inputs) ≡ t.nets
-unfolding settled_within rounds_within nets_after
+unfolding settling nets_after
 ends zero c state before inputs t e = absurd (none-some t e)
 ends (suc rounds) c state before inputs t e =
     let now = valuation c state inputs in
@@ -54,7 +54,7 @@ ends (suc rounds) c state before inputs t e =
     (ends rounds c after now inputs t)
 
 pub at_most : (rounds : ℕ) (c : Circuit) (state : State) (before inputs : List ℕ) → length (rounds_within rounds c state before inputs) ≤ rounds
-unfolding rounds_within
+unfolding settling
 at_most zero c state before inputs = omega arith
 at_most (suc rounds) c state before inputs =
     let now = valuation c state inputs in
@@ -65,7 +65,7 @@ at_most (suc rounds) c state before inputs =
 
 pub all_of_them : (rounds : ℕ) (c : Circuit) (state : State) (before inputs : List ℕ) → settled_within rounds c state before inputs ≡ None
     → length (rounds_within rounds c state before inputs) ≡ rounds
-unfolding settled_within rounds_within
+unfolding settling
 all_of_them zero c state before inputs e = refl
 all_of_them (suc rounds) c state before inputs e =
     let now = valuation c state inputs in
@@ -78,7 +78,7 @@ all_of_them (suc rounds) c state before inputs e =
 -- where a sample settles there is a round, so what stands ahead of the rounds does not matter
 ends_alone : (rounds : ℕ) (c : Circuit) (state : State) (before inputs : List ℕ) (t : Standing) → settled_within rounds c state before inputs ≡ Some t
     → nets_after [] (rounds_within rounds c state before inputs) ≡ t.nets
-unfolding settled_within rounds_within nets_after
+unfolding settling nets_after
 ends_alone zero c state before inputs t e = absurd (none-some t e)
 ends_alone (suc rounds) c state before inputs t e = ends (suc rounds) c state before inputs t e
 

@@ -7,7 +7,8 @@ use Rattle.circuit.specs.State.{State, Stored}
 use Rattle.circuit.specs.StateOf.{IsStateOf}
 use Rattle.circuit.specs.Valuation.{digit_at, numbers_from, valuation}
 use Rattle.circuit.specs.Next.{next, next_mems, next_numbers, next_reads, next_rows}
-use Rattle.circuit.specs.Rounds.{Run, Standing, parts, settled, standing_after, start, start_state, start_stored}
+use Rattle.sim_base.specs.Parts.{parts}
+use Rattle.circuit.specs.Rounds.{Run, Standing, settled, standing_after, start, start_state, start_stored}
 use Rattle.circuit.specs.declared.netlist.Circuit.{Circuit}
 use Rattle.circuit.specs.declared.netlist.Net.{Net}
 use Rattle.circuit.specs.declared.register.Reg.{Reg}

@@ -11,7 +11,7 @@ use Rattle.circuit.specs.Signal.{Digits, digits_of_nets, sig_number}
 use Rattle.circuit.specs.State.{State, Stored, same_stored, same_state}
 use Rattle.circuit.specs.Valuation.{valuation}
 use Rattle.circuit.specs.Next.{is_active, has_edge, RegisterInputs, register_inputs, bit_by_bit, next_by, next_number, next_numbers, writes_at, or_else, highest_write, all_marked, next_row, next_rows, transparent_read, next_read, next_reads, next_stored, next_mems, next}
-use Rattle.circuit.specs.Rounds.{Standing, settled_within}
+use Rattle.circuit.specs.Rounds.{Standing, settled_within, settling}
 use Rattle.circuit.specs.declared.netlist.Circuit.{Circuit}
 use Rattle.circuit.specs.declared.netlist.Piece.{Piece}
 use Rattle.circuit.specs.declared.register.Reg.{Reg}
@@ -199,7 +199,7 @@ same_standing : (s t : Standing) → Some s ≡ Some t → s ≡ t
 same_standing s t e = grind arith
 
 pub settles : (rounds : ℕ) (c : Circuit) (state : State) (before inputs : List ℕ) (t : Standing) → settled_within rounds c state before inputs ≡ Some t → Settles c inputs t
-unfolding settled_within
+unfolding settling
 settles zero c state before inputs t e = absurd (none-some t e)
 settles (suc rounds) c state before inputs t e = elim (cases_Bool (same_state (next c state before (valuation c state inputs)) state)) [
   | inl same ↦ subst (Settles c inputs) (same_standing _ t (sym (cond-true (same_state (next c state before (valuation c state inputs)) state) _ _ same) ∙ e)) (record { before = before; nets = refl; same = same })

@@ -1,6 +1,7 @@
 -- Rounds and samples. The rounds are after Yosys CXXRTL; that there are at most 256 for a sample, and that inputs were 0
 -- before the first one, is this project's own choice.
-use Rattle.std.specs.Prelude.{◌≡◌, ⊤, ℕ, zero, suc, ◌/◌, ◌%◌, ◌^◌, List, [], ◌∷◌, map, Option, Some, None, option_and_then, is_some, if◌then◌else◌}
+use Rattle.std.specs.Prelude.{◌≡◌, ⊤, ℕ, zero, suc, List, [], ◌∷◌, map, Option, Some, None, option_and_then, is_some, if◌then◌else◌}
+use Rattle.sim_base.specs.Parts.{parts}
 use Rattle.circuit.specs.State.{State, Stored, same_state}
 use Rattle.circuit.specs.Valuation.{valuation}
 use Rattle.circuit.specs.Next.{next}
@@ -23,22 +24,38 @@ pub record Standing : Type 0 where
   pub state : State
   pub nets : List ℕ
 
--- the first of so many rounds that leaves the state as it is
-unfoldable pub settled_within : ℕ → Circuit → State → List ℕ → List ℕ → Option Standing
-settled_within zero c state before inputs = None
-settled_within (suc rounds) c state before inputs =
+-- a round: the number of each net in the one before, and in itself
+pub record Round : Type 0 where
+  pub before : List ℕ
+  pub now : List ℕ
+
+-- the rounds up to the first that leaves the state as it is, and how the circuit stands after it, where there is one
+pub record Settling : Type 0 where
+  pub rounds : List Round
+  pub standing : Option Standing
+
+-- so many rounds at most
+unfoldable pub settling : ℕ → Circuit → State → List ℕ → List ℕ → Settling
+settling zero c state before inputs = record { rounds = []; standing = None }
+settling (suc most) c state before inputs =
     let now = valuation c state inputs in
     let after = next c state before now in
-    if same_state after state then Some (record { state = state; nets = now }) else settled_within rounds c after now inputs
+    let still = same_state after state in
+    let later = settling most c after now inputs in
+    record {
+      rounds = record { before = before; now = now } ∷ (if still then [] else later.rounds);
+      standing = if still then Some (record { state = state; nets = now }) else later.standing;
+    }
+
+abbrev pub settled_within : ℕ → Circuit → State → List ℕ → List ℕ → Option Standing
+settled_within most c state before inputs = (settling most c state before inputs).standing
+
+abbrev pub rounds_within : ℕ → Circuit → State → List ℕ → List ℕ → List Round
+rounds_within most c state before inputs = (settling most c state before inputs).rounds
 
 -- at most 256 rounds
 abbrev pub settled : Circuit → Standing → List ℕ → Option Standing
 settled c s inputs = settled_within 256 c s.state s.nets inputs
-
--- the lowest parts of a number, each of this width
-unfoldable pub parts : ℕ → ℕ → ℕ → List ℕ
-parts width zero n = []
-parts width (suc count) n = n % 2 ^ width ∷ parts width count (n / 2 ^ width)
 
 -- before the first sample: the start values, under inputs that are all 0
 abbrev pub start_stored : Mem → Stored
@@ -69,19 +86,6 @@ abbrev pub run_length : Run → ℕ
 run_length run = settled_samples run run.count
 
 -- ---- the rounds of a sample, one by one
-
--- a round: the valuation of the one before, and its own
-pub record Round : Type 0 where
-  pub before : List ℕ
-  pub now : List ℕ
-
--- the rounds up to the first that leaves the state as it is, of so many
-unfoldable pub rounds_within : ℕ → Circuit → State → List ℕ → List ℕ → List Round
-rounds_within zero c state before inputs = []
-rounds_within (suc rounds) c state before inputs =
-    let now = valuation c state inputs in
-    let after = next c state before now in
-    record { before = before; now = now } ∷ (if same_state after state then [] else rounds_within rounds c after now inputs)
 
 abbrev pub rounds_from : Circuit → Option Standing → List ℕ → List Round
 rounds_from c None inputs = []

@@ -1,5 +1,5 @@
 -- The number that a signal has under a valuation of the nets.
-use Rattle.std.specs.Prelude.{◌≡◌, ℕ, zero, suc, ◌+◌, ◌*◌, ◌^◌, ◌<◌, ◌≤◌, ◌⊎◌, List, [], ◌∷◌, sum_by, slice_index}
+use Rattle.std.specs.Prelude.{◌≡◌, ℕ, zero, suc, ◌+◌, ◌-◌, ◌*◌, ◌/◌, ◌%◌, ◌^◌, ◌<◌, ◌≤◌, ◌⊎◌, List, [], ◌∷◌, min, nat_eq, sum_by, slice_index, if◌then◌else◌}
 use Rattle.std.specs.Int.{bit_at}
 use Rattle.sim_base.specs.BitValue.{BitValue, bit_value}
 use Rattle.circuit.specs.declared.netlist.Piece.{Piece}
@@ -8,6 +8,10 @@ use Rattle.circuit.specs.declared.netlist.Piece.TheVariants as piece
 -- the digit of each bit of each net
 abbrev pub Digits : Type 0
 Digits = ℕ → ℕ → ℕ
+
+-- each digit is 0 or 1
+abbrev pub AreBits : Digits → Type 0
+AreBits digits = (net bit : ℕ) → digits net bit < 2
 
 -- the digits of nets that have these numbers
 abbrev pub digits_of_nets : List ℕ → Digits
@@ -37,6 +41,19 @@ sig_number digits (p ∷ ps) = sig_number digits ps * 2 ^ piece_width p + piece_
 -- the width of a signal, and its number
 abbrev pub sig_value : Digits → List Piece → BitValue
 sig_value digits pieces = bit_value (sig_width pieces) (sig_number digits pieces)
+
+-- bits of a piece, so many from its bit `at` on
+abbrev pub piece_part : ℕ → ℕ → Piece → Piece
+piece_part at width (piece.Const v) = piece.Const (bit_value width (v.number / 2 ^ at % 2 ^ width))
+piece_part at width (piece.Part net from all) = piece.Part net (from + at) width
+
+-- bits of a signal, so many from its bit `at` on, in pieces that each have a bit at least
+unfoldable pub sig_part : ℕ → ℕ → List Piece → List Piece
+sig_part at width [] = []
+sig_part at width (p ∷ ps) =
+    let taken = min (piece_width p - at) width in
+    let rest = sig_part (at - piece_width p) (width - taken) ps in
+    if nat_eq taken 0 then rest else piece_part at taken p ∷ rest
 
 -- a signal reads a bit
 unfoldable pub Reads : List Piece → ℕ → ℕ → Type 0

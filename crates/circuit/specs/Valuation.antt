@@ -13,6 +13,15 @@ use Rattle.circuit.specs.declared.memory.ReadPort.{ReadPort}
 use Rattle.circuit.specs.declared.netlist.By.{By}
 use Rattle.circuit.specs.declared.netlist.By.TheVariants as by
 
+-- the first bit that is taken of what drives
+abbrev pub offset_of : By → ℕ
+offset_of (by.Const v) = 0
+offset_of (by.Input n at) = at
+offset_of (by.Wire n at) = at
+offset_of (by.Cell n at) = at
+offset_of (by.Reg n at) = at
+offset_of (by.Read m n at) = at
+
 abbrev pub covers : ℕ → ℕ → Drive → Bool
 covers net bit d = nat_eq d.net net && (nat_le d.at bit && nat_lt bit (d.at + d.width))
 

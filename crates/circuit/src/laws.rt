@@ -1,9 +1,9 @@
 //! Laws of the meaning of circuits.
-ghost use Rattle.std.specs.Prelude.{◌≡◌, ◌≤◌, ◌<◌, ℕ, ◌-◌, List, true, Some, None, is_some, length, slice_get, slice_index, ◌^◌, Bool, false};
+ghost use Rattle.std.specs.Prelude.{◌≡◌, ◌≤◌, ◌<◌, ℕ, ◌+◌, ◌-◌, ◌/◌, ◌%◌, List, true, Some, None, is_some, length, slice_get, slice_index, ◌^◌, Bool, false};
 ghost use Rattle.std.specs.Int.{bit_at};
 ghost use Rattle.sim_base.specs.BitValue.{BitValue};
 ghost use Rattle.circuit.specs.Choices.{HasEdgeAt, IsHighestWrite, IsMarked};
-ghost use Rattle.circuit.specs.Signal.{Digits, sig_number};
+ghost use Rattle.circuit.specs.Signal.{AreBits, Digits, piece_width, sig_number, sig_part, sig_width};
 ghost use Rattle.circuit.specs.Output.{ReadsBit, is_zero, lowest, output};
 ghost use Rattle.circuit.specs.Next.{highest_write, next, writes_at};
 ghost use Rattle.circuit.specs.declared.cell.Cell.{Cell};
@@ -17,9 +17,9 @@ ghost use Rattle.circuit.specs.declared.memory.WritePort.{WritePort};
 ghost use Rattle.circuit.specs.declared.netlist.Piece.{Piece};
 ghost use Rattle.circuit.specs.Acyclic.{IsInOrder};
 ghost use Rattle.circuit.specs.Slots.{slot_widths};
-ghost use Rattle.circuit.specs.Valid.{is_valid};
+ghost use Rattle.circuit.specs.Valid.{is_valid, sig_fits, sig_of};
 ghost use Rattle.circuit.specs.StateOf.{IsStateOf};
-ghost use Rattle.circuit.specs.Below.{AreRowsBelow, AreValuesBelow, IsStateBelow};
+ghost use Rattle.circuit.specs.Below.{AreConstantsBelow, AreRowsBelow, AreValuesBelow, IsStateBelow};
 ghost use Rattle.circuit.specs.declared.diagnostic.Diag.{Diag};
 ghost use Rattle.circuit.specs.declared.netlist.Drive.{Drive};
 
@@ -129,4 +129,16 @@ pub fn law_of_writing()
 pub fn law_of_edges()
     ensures found { (before now : Digits) (on : List Piece) (rising : List Bool) → some_edge before now on 0 rising ≡ true → (i : ℕ) × HasEdgeAt before now on rising i }
     ensures given { (before now : Digits) (on : List Piece) (rising : List Bool) (i : ℕ) → HasEdgeAt before now on rising i → some_edge before now on 0 rising ≡ true }
+{}
+
+/// Bits of a signal, so many from one on, are a signal of so many bits, whose number is that of the whole,
+/// divided and cut: its bit i is bit `at + i` of the whole. It fits where the whole does, and has no piece
+/// without a bit. Digits are 0 or 1, and constants below 2 to their widths, as a program's are.
+pub fn law_of_sig_part()
+    ensures width { (at width : ℕ) (ps : List Piece) → at + width ≤ sig_width ps → sig_width (sig_part at width ps) ≡ width }
+    ensures number { (digits : Digits) (at width : ℕ) (ps : List Piece) → AreBits digits → AreConstantsBelow ps → sig_number digits (sig_part at width ps) ≡ sig_number digits ps / 2 ^ at % 2 ^ width }
+    ensures bit { (digits : Digits) (at width i : ℕ) (ps : List Piece) → AreBits digits → AreConstantsBelow ps → i < width → bit_at (sig_number digits (sig_part at width ps)) i ≡ bit_at (sig_number digits ps) (at + i) }
+    ensures constants { (at width : ℕ) (ps : List Piece) → AreConstantsBelow (sig_part at width ps) }
+    ensures some { (at width n : ℕ) (ps : List Piece) (p : Piece) → slice_get (sig_part at width ps) n ≡ Some p → 0 < piece_width p }
+    ensures fits { (nets : List Net) (at width : ℕ) (ps : List Piece) → at + width ≤ sig_width ps → sig_fits nets ps ≡ true → sig_of nets width (sig_part at width ps) ≡ true }
 {}

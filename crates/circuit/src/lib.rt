@@ -13,6 +13,7 @@ mod memory;
 mod netlist;
 mod register;
 mod shape;
+mod signal;
 mod store;
 mod validity;
 mod worked;
@@ -24,13 +25,14 @@ pub use fault::{BitAt, DesignFault, DesignKind};
 pub use item::{Item, ItemKind, Scope};
 pub use laws::{
     law_of_diagnostics, law_of_edges, law_of_keeping, law_of_lowest, law_of_places, law_of_reading,
-    law_of_settling, law_of_showing, law_of_succession, law_of_widths, law_of_writing,
-    length_of_run, one_valuation,
+    law_of_settling, law_of_showing, law_of_sig_part, law_of_succession, law_of_widths,
+    law_of_writing, length_of_run, one_valuation,
 };
 pub use listing::Listing;
 pub use memory::{Mem, ReadPort, WritePort};
 pub use netlist::{By, Circuit, Drive, Net, Piece, Sig};
 pub use register::{Polarity, Reg, RegKind};
+pub use signal::sig_width;
 pub use store::{Store, start_regs};
 pub use worked::{
     worked_arithmetic, worked_registers, worked_rounds, worked_runs, worked_selections,

@@ -26,9 +26,11 @@ use registers::register_fits;
 use signals::{WIDEST, drive_fits};
 
 impl Circuit {
-    /// Whether this is a circuit that the other crates take: each number names what is there, each part
-    /// and each drive lies inside its net, each signal and value has the width that its type gives it,
-    /// the items stand in the byte order of their names with their slots in turn, and texts are UTF-8.
+    /// Whether this is a circuit that the other crates take: numbers of 32 bits count each list that they
+    /// name, the slots, the nodes of an order of evaluation and the bits of all nets together; each number
+    /// names what is there, each part and each drive lies inside its net, each signal and value has the
+    /// width that its type gives it, the items stand in the byte order of their names with their slots in
+    /// turn, and texts are UTF-8.
     /// It takes no memory. So the names of scopes are compared with one another, the inputs too, and
     /// each input is looked for among all items: the time is that of a pass over the circuit and of
     /// scopes² + inputs² + inputs · items comparisons.

@@ -31,7 +31,8 @@ use Rattle.sim_base.specs.Values.{numbers, width_at, widths}
 use Rattle.signal_words.specs.Values.{digits_in}
 use Rattle.signal_words.proofs.Fitting.{mapped_at}
 use Rattle.eval_commit.specs.Computed.{cell_number, port_row, read_number}
-use Rattle.eval_commit.specs.Spread.{AreRootsInside, IsSpread, offset_of}
+use Rattle.eval_commit.specs.Spread.{AreRootsInside, IsSpread}
+use Rattle.circuit.specs.Valuation.{offset_of}
 use Rattle.eval_commit.proofs.Written.{number_set, put_widths}
 
 -- ---- elements

@@ -21,7 +21,7 @@ use Rattle.sim_base.specs.Values.{widths}
 use Rattle.signal_words.proofs.Fitting.{mapped_at}
 use Rattle.eval_commit.specs.Held.{HasKept, Kept, is_kept, kept_value}
 use Rattle.eval_commit.specs.Round.{AreInputsOf}
-use Rattle.eval_commit.specs.Spread.{offset_of}
+use Rattle.circuit.specs.Valuation.{offset_of}
 use Rattle.eval_commit.proofs.Belonging.{value_at}
 
 abbrev pub kept_of : List BitValue → Store → Kept

@@ -8,7 +8,7 @@ use Rattle.circuit.specs.Signal.{Digits, Reads, sig_number}
 use Rattle.circuit.specs.Output.{ReadsBit, output}
 use Rattle.circuit.specs.State.{State, addressed_row}
 use Rattle.circuit.specs.Valid.{driver_fits, drivers_of, port_holds}
-use Rattle.circuit.specs.Valuation.{IsValuation, cell_digit, covers, given, port_digit, read_digit}
+use Rattle.circuit.specs.Valuation.{IsValuation, cell_digit, covers, given, offset_of, port_digit, read_digit}
 use Rattle.circuit.specs.declared.netlist.Circuit.{Circuit}
 use Rattle.circuit.specs.declared.netlist.Drive.{Drive}
 use Rattle.circuit.specs.declared.netlist.By.{By}
@@ -35,7 +35,7 @@ use Rattle.signal_words.specs.Values.{digits_in}
 use Rattle.eval_commit.specs.Computed.{AreAllRows, cell_number, computed, node_row}
 use Rattle.eval_commit.specs.Held.{HasKept, IsSeeded, is_kept, kept_value}
 use Rattle.eval_commit.specs.Round.{Holds, IsBlank}
-use Rattle.eval_commit.specs.Spread.{IsCovered, IsSpread, offset_of}
+use Rattle.eval_commit.specs.Spread.{IsCovered, IsSpread}
 use Rattle.eval_commit.proofs.Belonging.{read_at}
 use Rattle.eval_commit.proofs.Keeping.{kept_of, outs_at}
 use Rattle.eval_commit.proofs.Meaning.{AreRight, IsThereBy, covering, final_right, root_right, undriven_right}

@@ -7,7 +7,7 @@ use Rattle.std.proofs.lemmas.Bool.{cond-true, cond-false, and_parts}
 use Rattle.circuit.specs.State.{State, Stored, same_stored, same_state}
 use Rattle.circuit.specs.Valuation.{valuation}
 use Rattle.circuit.specs.Next.{next}
-use Rattle.circuit.specs.Rounds.{Round, rounds_within, settled_within}
+use Rattle.circuit.specs.Rounds.{Round, rounds_within, settled_within, settling}
 use Rattle.circuit.specs.Shown.{fires_by}
 use Rattle.circuit.specs.declared.netlist.Circuit.{Circuit}
 use Rattle.eval_commit.specs.Fired.{all_fired_after, none_fired}
@@ -39,21 +39,21 @@ state_same s t e =
 
 settled_step : (r : ℕ) (c : Circuit) (state : State) (before inputs : List ℕ) → settled_within (suc r) c state before inputs
     ≡ cond (same_state (next c state before (valuation c state inputs)) state) (Some (record { state = state; nets = valuation c state inputs })) (settled_within r c (next c state before (valuation c state inputs)) (valuation c state inputs) inputs)
-unfolding settled_within
+unfolding settling
 settled_step r c state before inputs = refl
 
 pub settled_never : (c : Circuit) (state : State) (before inputs : List ℕ) → settled_within 0 c state before inputs ≡ None
-unfolding settled_within
+unfolding settling
 settled_never c state before inputs = refl
 
 rounds_step : (r : ℕ) (c : Circuit) (state : State) (before inputs : List ℕ) → rounds_within (suc r) c state before inputs
     ≡ record { before = before; now = valuation c state inputs }
     ∷ cond (same_state (next c state before (valuation c state inputs)) state) [] (rounds_within r c (next c state before (valuation c state inputs)) (valuation c state inputs) inputs)
-unfolding rounds_within
+unfolding settling
 rounds_step r c state before inputs = refl
 
 pub no_rounds : (c : Circuit) (state : State) (before inputs : List ℕ) → length (rounds_within 0 c state before inputs) ≡ 0
-unfolding rounds_within
+unfolding settling
 no_rounds c state before inputs = refl
 
 -- ---- a round from one state to the next
@@ -106,7 +106,7 @@ all_left c inputs first nets fired e = record { rest = refl; counted = omega ari
 -- what the flags say once all rounds are done
 all_fire : (c : Circuit) (state : State) (before inputs : List ℕ) (r : ℕ)
     → all_fired_over c.diags (none_fired c.diags) (rounds_within (suc r) c state before inputs) ≡ map (λ d. fires_by d.trigger d (rounds_within (suc r) c state before inputs)) c.diags
-unfolding rounds_within
+unfolding settling
 all_fire c state before inputs r =
     let now = valuation c state inputs in
     let after = next c state before now in

@@ -5,14 +5,14 @@ use Rattle.std.proofs.lemmas.Option.{slice_get-get_or}
 use Rattle.std.proofs.lemmas.Bool.{cases_eq, cases_Bool, cond-true, cond-false, false≢true}
 use Rattle.std.proofs.lemmas.List.{length-map}
 use Rattle.sim_base.specs.BitValue.{BitValue}
-use Rattle.circuit.specs.Valuation.{covers}
+use Rattle.circuit.specs.Valuation.{covers, offset_of}
 use Rattle.circuit.specs.declared.netlist.Drive.{Drive}
 use Rattle.driver_check.specs.Depends.{Bit}
 use Rattle.driver_check.proofs.Places.{read, same, within}
 use Rattle.sim_base.specs.Values.{width_at, widths}
 use Rattle.signal_words.specs.Values.{digits_in}
 use Rattle.eval_plan.specs.Roots.{AreApart}
-use Rattle.eval_commit.specs.Spread.{IsRootInside, IsSpread, offset_of, taken_digit}
+use Rattle.eval_commit.specs.Spread.{IsRootInside, IsSpread, taken_digit}
 use Rattle.eval_commit.specs.Held.{HasKept, IsSeeded, Kept, is_kept, kept_value}
 
 -- ---- what stays inside where widths stay

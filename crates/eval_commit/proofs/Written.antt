@@ -8,13 +8,13 @@ use Rattle.std.proofs.lemmas.List.{map-set, get_or-set_same, get_or-set_other, l
 use Rattle.std.proofs.lemmas.Option.{get_or_from_slice_get}
 use Rattle.std.proofs.Math.Seq.{map-set_same}
 use Rattle.sim_base.specs.BitValue.{BitValue, digit_after_copy}
-use Rattle.circuit.specs.Valuation.{covers}
+use Rattle.circuit.specs.Valuation.{covers, offset_of}
 use Rattle.circuit.specs.declared.netlist.Drive.{Drive}
 use Rattle.driver_check.specs.Depends.{Bit}
 use Rattle.driver_check.proofs.Places.{within}
 use Rattle.sim_base.specs.Values.{numbers, value_at, widths}
 use Rattle.signal_words.specs.Values.{digits_in}
-use Rattle.eval_commit.specs.Spread.{offset_of, taken_digit}
+use Rattle.eval_commit.specs.Spread.{taken_digit}
 
 -- a value that is read
 pub viewed : (values : List BitValue) (n : ℕ) (v : BitValue) → n < length values → v ≡ value_at values n → slice_get values n ≡ Some v

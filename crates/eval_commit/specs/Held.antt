@@ -7,7 +7,8 @@ use Rattle.circuit.specs.declared.netlist.By.TheVariants as by
 use Rattle.driver_check.specs.Depends.{Bit}
 use Rattle.eval_plan.specs.Roots.{CoversIn}
 use Rattle.signal_words.specs.Values.{digits_in}
-use Rattle.eval_commit.specs.Spread.{offset_of, taken_digit}
+use Rattle.eval_commit.specs.Spread.{taken_digit}
+use Rattle.circuit.specs.Valuation.{offset_of}
 
 -- the values of the inputs, of the registers, and of the read ports of each memory
 pub record Kept : Type 0 where

@@ -3,21 +3,11 @@ use Rattle.std.specs.Prelude.{◌≡◌, ℕ, ◌+◌, ◌-◌, ◌<◌, ◌≤�
 use Rattle.std.specs.Int.{bit_at}
 use Rattle.sim_base.specs.BitValue.{BitValue}
 use Rattle.circuit.specs.declared.netlist.Drive.{Drive}
-use Rattle.circuit.specs.declared.netlist.By.{By}
-use Rattle.circuit.specs.declared.netlist.By.TheVariants as by
+use Rattle.circuit.specs.Valuation.{offset_of}
 use Rattle.driver_check.specs.Depends.{Bit}
 use Rattle.eval_plan.specs.Roots.{CoversIn}
 use Rattle.sim_base.specs.Values.{width_at}
 use Rattle.signal_words.specs.Values.{digits_in}
-
--- the first bit that is taken of what drives
-abbrev pub offset_of : By → ℕ
-offset_of (by.Const v) = 0
-offset_of (by.Input n at) = at
-offset_of (by.Wire n at) = at
-offset_of (by.Cell n at) = at
-offset_of (by.Reg n at) = at
-offset_of (by.Read m n at) = at
 
 -- the digit that a root takes for a bit from a number
 abbrev pub taken_digit : ℕ → Drive → Bit → ℕ

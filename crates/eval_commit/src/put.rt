@@ -2,31 +2,17 @@
 ghost use Rattle.std.specs.Prelude.{◌≡◌, ℕ, ◌+◌, ◌-◌, ◌<◌, ◌≤◌, List, Some, true, false, length, slice_get, if◌then◌else◌};
 ghost use Rattle.std.specs.Int.{bit_at};
 ghost use Rattle.sim_base.specs.BitValue.{BitValue};
-ghost use Rattle.circuit.specs.Valuation.{covers};
+ghost use Rattle.circuit.specs.Valuation.{covers, offset_of};
 ghost use Rattle.circuit.specs.declared.netlist.Drive.{Drive as TheDrive};
 ghost use Rattle.driver_check.specs.Depends.{Bit};
 ghost use Rattle.sim_base.specs.Values.{width_at, widths};
 ghost use Rattle.signal_words.specs.Values.{digits_in};
 ghost use Rattle.eval_plan.specs.Roots.{AreApart};
-ghost use Rattle.eval_commit.specs.Spread.{AreRootsInside, IsRootInside, IsSpread, offset_of, taken_digit};
+ghost use Rattle.eval_commit.specs.Spread.{AreRootsInside, IsRootInside, IsSpread, taken_digit};
 ghost use Rattle.eval_commit.specs.Held.{HasKept, IsSeeded, Kept, is_kept, kept_value};
 
 use circuit::{By, Drive, Listing};
 use sim_base::{Bits, BitsView, Values};
-
-/// The first bit that is taken of what drives.
-fn offset_of(by: &By) -> u32
-    ensures { result ≡ offset_of by.now }
-{
-    match by {
-        By::Const(_) => 0,
-        By::Input(_, at)
-        | By::Wire(_, at)
-        | By::Cell(_, at)
-        | By::Reg(_, at)
-        | By::Read(_, _, at) => *at,
-    }
-}
 
 /// Writes the bits of a root.
 fn put(nets: &mut Values, root: &Drive, from: &BitsView)
@@ -35,7 +21,7 @@ fn put(nets: &mut Values, root: &Drive, from: &BitsView)
     ensures widths { widths nets.new ≡ widths nets.old }
     ensures digits { (x : Bit) → digits_in nets.new x.0 x.1 ≡ (if covers x.0 x.1 root.now then taken_digit from.now.number root.now x else digits_in nets.old x.0 x.1) }
 {
-    nets.copy(root.net, root.at, from, offset_of(&root.by), root.width);
+    nets.copy(root.net, root.at, from, root.by.offset(), root.width);
 }
 
 /// Writes the bits of the listed roots, which take from one value. It takes no memory.

@@ -8,17 +8,17 @@ use Rattle.circuit.specs.Signal.{Digits, digits_of_nets}
 use Rattle.circuit.specs.State.{State, Stored, same_stored, same_state}
 use Rattle.circuit.specs.Valuation.{valuation}
 use Rattle.circuit.specs.Next.{next, next_numbers, next_mems}
-use Rattle.circuit.specs.Rounds.{Standing, start_state, start_stored, settled_within}
+use Rattle.circuit.specs.Rounds.{Standing, start_state, start_stored, settled_within, settling}
 use Rattle.circuit.specs.declared.memory.Mem.{Mem}
 use Rattle.circuit.specs.declared.netlist.Circuit.{Circuit}
 
 settled_step : (r : ℕ) (c : Circuit) (state : State) (before inputs : List ℕ) → settled_within (suc r) c state before inputs
     ≡ cond (same_state (next c state before (valuation c state inputs)) state) (Some (record { state = state; nets = valuation c state inputs })) (settled_within r c (next c state before (valuation c state inputs)) (valuation c state inputs) inputs)
-unfolding settled_within
+unfolding settling
 settled_step r c state before inputs = refl
 
 pub settled_never : (c : Circuit) (state : State) (before inputs : List ℕ) → settled_within 0 c state before inputs ≡ None
-unfolding settled_within
+unfolding settling
 settled_never c state before inputs = refl
 
 -- ---- no memories

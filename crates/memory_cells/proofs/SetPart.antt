@@ -8,10 +8,9 @@ use Rattle.std.proofs.lemmas.Nat.Bits.{same_from_bits_below}
 use Rattle.std.specs.Int.{bit_at}
 use Rattle.sim_base.specs.BitValue.{digit_after_copy}
 use Rattle.sim_base.proofs.Words.{copied_in, copied_below, copied_above}
-use Rattle.signal_words.proofs.Numbers.{field_of_field}
-use Rattle.circuit.specs.Rounds.{parts}
+use Rattle.sim_base.specs.Parts.{parts}
 use Rattle.memory_cells.proofs.Placed.{field_digit}
-use Rattle.memory_cells.proofs.Parts.{length-parts, part_at}
+use Rattle.sim_base.proofs.Parts.{field_of_field, length-parts, part_at}
 
 -- a digit of another row stays
 other_digit : (old new place w row i j : ℕ) → ((k : ℕ) → bit_at new k ≡ digit_after_copy (place * w) row 0 w old k) → i ≢ place → j < w → bit_at new (i * w + j) ≡ bit_at old (i * w + j)

@@ -3,7 +3,7 @@ ghost use Rattle.std.specs.Prelude.{◌≡◌, ◌*◌, ◌≤◌, ◌==◌, ◌
 ghost use Rattle.std.specs.Cmp.Lexicographic.{pointwise};
 ghost use Rattle.sim_base.specs.BitValue.{bit_value};
 ghost use Rattle.circuit.specs.Next.{has_edge, is_active, next_read, next_reads, transparent_read};
-ghost use Rattle.circuit.specs.Rounds.{parts};
+ghost use Rattle.sim_base.specs.Parts.{parts};
 ghost use Rattle.circuit.specs.Signal.{sig_width};
 ghost use Rattle.sim_base.specs.Values.{numbers, widths};
 ghost use Rattle.signal_words.specs.Values.{AreInside, digits_in};

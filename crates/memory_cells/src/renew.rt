@@ -3,7 +3,7 @@ ghost use Rattle.std.specs.Prelude.{◌≡◌, ◌+◌, ◌*◌, ◌/◌, ◌%�
 ghost use Rattle.std.specs.Cmp.Lexicographic.{pointwise};
 ghost use Rattle.std.specs.Option.{ForSome};
 ghost use Rattle.circuit.specs.Next.{next_rows};
-ghost use Rattle.circuit.specs.Rounds.{parts};
+ghost use Rattle.sim_base.specs.Parts.{parts};
 ghost use Rattle.signal_words.specs.Values.{digits_in};
 ghost use Rattle.memory_cells.specs.Ports.{IsMemoryOf, IsWritePortOf, place_written, renewed_rows};
 

@@ -1,7 +1,7 @@
 //! The rows of one memory.
 ghost use Rattle.std.specs.Prelude.{◌≡◌, ◌+◌, ◌*◌, ◌/◌, ◌%◌, ◌^◌, ◌<◌, ◌≤◌, ◌==◌, IfOk, length, slice_index};
 ghost use Rattle.sim_base.specs.BitValue.{bit_value};
-ghost use Rattle.circuit.specs.Rounds.{parts};
+ghost use Rattle.sim_base.specs.Parts.{parts};
 ghost use Rattle.memory_cells.specs.Rows.{start_rows};
 
 use circuit::Mem;
@@ -22,7 +22,7 @@ pub struct Rows {
 
 impl Model for Rows {
     ghost use Rattle.std.specs.Prelude.{◌≡◌, ◌*◌};
-    ghost use Rattle.circuit.specs.Rounds.{parts};
+    ghost use Rattle.sim_base.specs.Parts.{parts};
     ghost use Rattle.memory_cells.specs.Rows.{RowValues};
 
     ghost Value = { RowValues };

@@ -18,33 +18,6 @@ field_gathered x at (suc w) =
     ∙ ap (λ m. (m % 2 ^ 1) * 2 ^ w + x / 2 ^ at % 2 ^ w) (shr-shr x at w)
     ∙ ap (λ g. bit_at x (at + w) * 2 ^ w + g) (field_gathered x at w)
 
-pub whole_field : (x w : ℕ) → x < 2 ^ w → x / 2 ^ 0 % 2 ^ w ≡ x
-whole_field x w lt = let e : x / 2 ^ 0 ≡ x = omega arith in ap (λ n. n % 2 ^ w) e ∙ mod-eq_of_lt lt
-
--- a field of a field
-pub field_of_field : (x f w a n : ℕ) → a + n ≤ w → x / 2 ^ f % 2 ^ w / 2 ^ a % 2 ^ n ≡ x / 2 ^ (f + a) % 2 ^ n
-field_of_field x f w a n le =
-    same_from_bits_below n (x / 2 ^ f % 2 ^ w / 2 ^ a % 2 ^ n) (x / 2 ^ (f + a) % 2 ^ n)
-    (mod_below (x / 2 ^ f % 2 ^ w / 2 ^ a) (2 ^ n) (pow_pos n)) (mod_below (x / 2 ^ (f + a)) (2 ^ n) (pow_pos n))
-    (λ j lt.
-    let z : f + (a + j) ≡ f + a + j = omega arith in
-    bit_at_mod (x / 2 ^ f % 2 ^ w / 2 ^ a) n j lt ∙ bit_at_shr (x / 2 ^ f % 2 ^ w) a j ∙ bit_at_mod (x / 2 ^ f) w (a + j) (omega arith)
-    ∙ bit_at_shr x f (a + j) ∙ ap (bit_at x) z
-    ∙ sym (bit_at_mod (x / 2 ^ (f + a)) n j lt ∙ bit_at_shr x (f + a) j))
-
--- a field that lies in the low part
-pub low_field : (s w p at k : ℕ) → at + k ≤ w → (s * 2 ^ w + p) / 2 ^ at % 2 ^ k ≡ p / 2 ^ at % 2 ^ k
-low_field s w p at k le =
-    same_from_bits_below k ((s * 2 ^ w + p) / 2 ^ at % 2 ^ k) (p / 2 ^ at % 2 ^ k)
-    (mod_below ((s * 2 ^ w + p) / 2 ^ at) (2 ^ k) (pow_pos k)) (mod_below (p / 2 ^ at) (2 ^ k) (pow_pos k))
-    (λ j lt.
-    bit_at_mod ((s * 2 ^ w + p) / 2 ^ at) k j lt ∙ bit_at_shr (s * 2 ^ w + p) at j ∙ bit_at_cat_low s w p (at + j) (omega arith)
-    ∙ sym (bit_at_mod (p / 2 ^ at) k j lt ∙ bit_at_shr p at j))
-
--- what stands above the low part
-pub high_part : (s w p at k : ℕ) → p < 2 ^ w → at + k ≡ w → (s * 2 ^ w + p) / 2 ^ at / 2 ^ k ≡ s
-high_part s w p at k lt e = shr-shr (s * 2 ^ w + p) at k ∙ ap (λ n. (s * 2 ^ w + p) / 2 ^ n) e ∙ shr_high s w p lt
-
 -- one more part still fits
 pub shifted_below : (x p w offset : ℕ) → x < 2 ^ offset → p < 2 ^ w → p * 2 ^ offset + x < 2 ^ (offset + w)
 shifted_below x p w offset a b =

@@ -10,7 +10,8 @@ use Rattle.circuit.specs.declared.netlist.Piece.{Piece}
 use Rattle.circuit.specs.declared.netlist.Piece.TheVariants as piece
 use Rattle.sim_base.specs.Values.{number_at, numbers, width_at}
 use Rattle.signal_words.specs.Values.{digits_in, first_width, IsInside, AreInside, IsPlace}
-use Rattle.signal_words.proofs.Numbers.{field_gathered, shifted_below, low_field, high_part, whole_field}
+use Rattle.sim_base.proofs.Parts.{low_field, high_part, whole_field}
+use Rattle.signal_words.proofs.Numbers.{field_gathered, shifted_below}
 
 -- ---- one piece
 

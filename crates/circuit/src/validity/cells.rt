@@ -5,7 +5,7 @@ ghost use Rattle.circuit.specs.Valid.{is_unary, is_binary, is_narrow, widths_fit
 
 use crate::cell::{Cell, Op};
 use crate::netlist::Net;
-use crate::validity::signals::{WIDEST, sig_fits, sig_width};
+use crate::validity::signals::{WIDEST, capped_width, sig_fits};
 use std::marker::Model;
 
 /// The most bits of a port of an arithmetic cell.
@@ -109,9 +109,9 @@ fn widths_of(cell: &Cell) -> Widths
     Widths {
         width: cell.width,
         offset: cell.offset,
-        a: sig_width(cell.a.as_slice()),
-        b: sig_width(cell.b.as_slice()),
-        s: sig_width(cell.s.as_slice()),
+        a: capped_width(cell.a.as_slice()),
+        b: capped_width(cell.b.as_slice()),
+        s: capped_width(cell.s.as_slice()),
     }
 }
 

@@ -6,13 +6,13 @@ use crate::diagnostic::{Diag, Trigger};
 use crate::netlist::Net;
 use crate::validity::counts::is_countable;
 use crate::validity::items::{is_utf8, text_fits};
-use crate::validity::signals::{sig_fits, sig_of, sig_width};
+use crate::validity::signals::{capped_width, sig_fits, sig_of};
 
 fn is_trigger(nets: &[Net], trigger: &Trigger) -> bool
     ensures { result ≡ trigger_fits nets.now (Some trigger.now) }
 {
     let on = trigger.on.as_slice();
-    sig_fits(nets, on) && trigger.rising.len() == sig_width(on) as usize
+    sig_fits(nets, on) && trigger.rising.len() == capped_width(on) as usize
 }
 
 fn trigger_fits(nets: &[Net], trigger: &Option<Trigger>) -> bool

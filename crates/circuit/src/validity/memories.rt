@@ -6,7 +6,7 @@ ghost use Rattle.circuit.specs.Valid.{read_fits, write_fits, address_width, mem_
 use crate::memory::{Mem, ReadPort, WritePort};
 use crate::netlist::Net;
 use crate::validity::counts::is_countable;
-use crate::validity::signals::{WIDEST, sig_of, sig_width};
+use crate::validity::signals::{WIDEST, capped_width, sig_of};
 
 fn read_fits(nets: &[Net], mem: &Mem, address: u32, port: &ReadPort) -> bool
     ensures { result ≡ read_fits nets.now mem.now address port.now }
@@ -46,8 +46,8 @@ fn address_width(reads: &[ReadPort], writes: &[WritePort]) -> u32
     ensures { result ≡ min (address_width reads.now writes.now) 65537 }
 {
     match (reads, writes) {
-        ([port, ..], _) => sig_width(port.addr.as_slice()),
-        ([], [port, ..]) => sig_width(port.addr.as_slice()),
+        ([port, ..], _) => capped_width(port.addr.as_slice()),
+        ([], [port, ..]) => capped_width(port.addr.as_slice()),
         ([], []) => 0,
     }
 }

@@ -36,22 +36,13 @@ fn pieces_fit(nets: &[Net], pieces: &[Piece]) -> bool
     pieces.iter().all(|piece| piece_fits(nets, piece))
 }
 
-fn piece_width(piece: &Piece) -> u32
-    ensures value { result ≡ piece_width piece.now }
-{
-    match piece {
-        Piece::Const(value) => value.width(),
-        Piece::Part { width, .. } => *width,
-    }
-}
-
 /// The width of a signal, and 65,537 for every wider one.
-pub fn sig_width(pieces: &[Piece]) -> u32
+pub fn capped_width(pieces: &[Piece]) -> u32
     ensures { result ≡ min (sig_width pieces.now) 65537 }
 {
     let mut width = 0u64;
     for piece in pieces {
-        width = (width + u64::from(piece_width(piece))).min(65_537);
+        width = (width + u64::from(piece.width())).min(65_537);
     }
     width as u32
 }
@@ -60,14 +51,14 @@ pub fn sig_width(pieces: &[Piece]) -> u32
 pub fn sig_fits(nets: &[Net], pieces: &[Piece]) -> bool
     ensures { result ≡ sig_fits nets.now pieces.now }
 {
-    pieces_fit(nets, pieces) && sig_width(pieces) <= WIDEST
+    pieces_fit(nets, pieces) && capped_width(pieces) <= WIDEST
 }
 
 /// The same, and the signal has so many bits.
 pub fn sig_of(nets: &[Net], width: u32, pieces: &[Piece]) -> bool
     ensures { result ≡ sig_of nets.now width pieces.now }
 {
-    sig_fits(nets, pieces) && sig_width(pieces) == width
+    sig_fits(nets, pieces) && capped_width(pieces) == width
 }
 
 fn input_holds(circuit: &Circuit, end: u64, input: u32) -> bool

@@ -1,4 +1,4 @@
-use Rattle.std.proofs.Common.{◌≡◌, ◌≤◌, ◌∙◌, List, length, map, take, ap, subst, arith}
+use Rattle.std.proofs.Common.{◌≡◌, ◌∙◌, List, length, map, take, ap, subst, arith}
 use Rattle.std.proofs.Math.Seq.{take-length}
 use Rattle.std.proofs.lemmas.Simd.{map-map}
 use Rattle.std.specs.Prelude.{IfOk}

@@ -1,4 +1,4 @@
-use Rattle.std.proofs.Common.{◌≡◌, ℕ, zero, [], ◌∷◌, ◌<◌, ◌≤◌, ◌+◌, suc, ◌∙◌, List, length, map, get_or, sym, ap, arith}
+use Rattle.std.proofs.Common.{◌≡◌, ℕ, zero, [], ◌∷◌, ◌<◌, ◌+◌, suc, ◌∙◌, List, length, map, get_or, sym, ap, arith}
 use Rattle.std.proofs.lemmas.List.{length-map}
 use Rattle.sim_base.specs.BitValue.{BitValue}
 use Rattle.sim_base.specs.Values.{with_number, width_at}

@@ -16,4 +16,4 @@ returns-clause-digits c x =
     let number = number_at c.copy.new.self net in
     ap (λ (l : List BitValue). digits_in l x.0 x.1) c.copy.ensures.value
     ∙ put_digits old c.args.root.now (value_at old net) (bit_value (width_at old net) number) c.args.from.now.number (viewed old net (value_at old net) c.requires.inside.0 refl)
-    (λ j. c.copy.ensures.bits j ∙ ap (λ n. digit_after_copy c.args.root.now.at c.args.from.now.number n c.args.root.now.width (number_at old net) j) c.offset_of.ensures) x
+    (λ j. c.copy.ensures.bits j ∙ ap (λ n. digit_after_copy c.args.root.now.at c.args.from.now.number n c.args.root.now.width (number_at old net) j) c.offset.ensures) x

@@ -1,5 +1,5 @@
 use Rattle.std.proofs.Common.{refl}
-use Rattle.memory_cells.proofs.Parts.{length-parts}
+use Rattle.sim_base.proofs.Parts.{length-parts}
 use Rattle.memory_cells.proofs.Fitting.{init_in, memory_in, same_there}
 use Rattle.memory_cells.proofs.laws.law_of_memories.Goals as goal
 

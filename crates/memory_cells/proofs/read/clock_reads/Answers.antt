@@ -1,5 +1,5 @@
 use Rattle.std.proofs.Common.{List, length, get_or, refl, sym, ◌∙◌, ap, arith}
-use Rattle.circuit.specs.Rounds.{parts}
+use Rattle.sim_base.specs.Parts.{parts}
 use Rattle.circuit.specs.declared.memory.ReadPort.{ReadPort}
 use Rattle.sim_base.specs.Values.{numbers}
 use Rattle.signal_words.specs.Values.{digits_in}

@@ -1,9 +1,9 @@
 use Rattle.std.proofs.Common.{List, length, get_or, refl, ◌∙◌, ap, arith}
-use Rattle.circuit.specs.Rounds.{parts}
+use Rattle.sim_base.specs.Parts.{parts}
 use Rattle.circuit.specs.declared.memory.WritePort.{WritePort}
 use Rattle.signal_words.specs.Values.{digits_in}
 use Rattle.memory_cells.specs.Ports.{renewed_rows}
-use Rattle.memory_cells.proofs.Parts.{length-parts, part_below}
+use Rattle.sim_base.proofs.Parts.{length-parts, part_below}
 use Rattle.memory_cells.proofs.Renewed.{rows_after_none, rows_after_more, rows_whole}
 use Rattle.memory_cells.proofs.renew.clock_writes.Goals as goal
 
@@ -33,7 +33,7 @@ returns-clause-rows c =
     let olds = parts m.width m.size c.args.rows.now.number in
     rows_whole (digits_in c.args.before.now) (digits_in c.args.now.now) m c.loop-port.port-index olds (parts m.width m.size c.loop-port.rows.number) c.loop-port.changed
     (omega (arith, c.loop-port-test.false, ap (length {A = WritePort}) c.as_slice-port-items.ensures))
-    (λ i lt. part_below m.width m.size c.args.rows.now.number i (omega (arith, length-parts m.width m.size c.args.rows.now.number))) c.loop-port.invariant.done
+    (λ i lt. part_below m.width m.size c.args.rows.now.number i) c.loop-port.invariant.done
 
 pub returns-clause-changed : goal.returns-clause-changed
 returns-clause-changed c = c.loop-port.invariant.done.told

@@ -1,5 +1,5 @@
 use Rattle.std.proofs.Common.{◌≡◌}
-use Rattle.circuit.specs.Rounds.{parts}
+use Rattle.sim_base.specs.Parts.{parts}
 use Rattle.signal_words.specs.Values.{digits_in}
 use Rattle.memory_cells.proofs.Renewed.{RowsAfter}
 use Rattle.memory_cells.proofs.renew.clock_writes.Given as goal

@@ -1,8 +1,8 @@
 use Rattle.std.proofs.Common.{◌≡◌, ◌*◌, ◌/◌, ◌%◌, ◌^◌, ◌<◌, ℕ, List, get_or, eqb, not, sym, ◌∙◌, ap, subst, arith}
 use Rattle.std.specs.Int.{bit_at}
 use Rattle.sim_base.specs.BitValue.{digit_after_copy}
-use Rattle.circuit.specs.Rounds.{parts}
-use Rattle.memory_cells.proofs.Parts.{length-parts, part_at}
+use Rattle.sim_base.specs.Parts.{parts}
+use Rattle.sim_base.proofs.Parts.{length-parts, part_at}
 use Rattle.memory_cells.proofs.SetPart.{parts_set}
 use Rattle.memory_cells.proofs.Told.{same_lists, told_one, eqb_other_way}
 use Rattle.memory_cells.proofs.renew.put_place.Goals as goal

@@ -1,6 +1,6 @@
 use Rattle.std.proofs.Common.{◌*◌, ◌/◌, ◌%◌, ◌^◌, sym, ◌∙◌, ap}
 use Rattle.sim_base.specs.BitValue.{bit_value}
-use Rattle.memory_cells.proofs.Parts.{part_at}
+use Rattle.sim_base.proofs.Parts.{part_at}
 use Rattle.memory_cells.proofs.rows.read_place.Goals as goal
 
 pub returns : goal.returns

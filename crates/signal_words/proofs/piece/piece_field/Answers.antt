@@ -3,7 +3,7 @@ use Rattle.circuit.specs.Signal.{piece_number, piece_width}
 use Rattle.sim_base.specs.Values.{numbers}
 use Rattle.signal_words.specs.Values.{digits_in, IsInside}
 use Rattle.std.proofs.Common.{◌≤◌, get_or}
-use Rattle.signal_words.proofs.Numbers.{field_of_field}
+use Rattle.sim_base.proofs.Parts.{field_of_field}
 use Rattle.signal_words.proofs.Signals.{number_read, part_field}
 use Rattle.signal_words.proofs.piece.piece_field.Goals as goal
 

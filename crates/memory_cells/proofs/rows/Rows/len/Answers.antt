@@ -1,6 +1,6 @@
 use Rattle.std.proofs.Common.{length, sym, ◌∙◌, ap}
 use Rattle.memory_cells.specs.Rows.{RowValues}
-use Rattle.memory_cells.proofs.Parts.{length-parts}
+use Rattle.sim_base.proofs.Parts.{length-parts}
 use Rattle.memory_cells.proofs.rows.Rows.len.Goals as goal
 
 pub returns : goal.returns

@@ -2,7 +2,7 @@ use Rattle.std.proofs.Common.{◌/◌, ◌%◌, ◌^◌, sym, ◌∙◌, ap, sub
 use Rattle.sim_base.specs.BitValue.{BitValue, bit_value}
 use Rattle.circuit.specs.Signal.{piece_number, piece_width}
 use Rattle.signal_words.specs.Values.{digits_in, IsInside}
-use Rattle.signal_words.proofs.Numbers.{whole_field}
+use Rattle.sim_base.proofs.Parts.{whole_field}
 use Rattle.signal_words.proofs.Signals.{number_read, part_field, same_value}
 use Rattle.signal_words.proofs.run.PieceReader.new.Goals as goal
 

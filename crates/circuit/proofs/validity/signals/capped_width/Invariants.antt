@@ -1,6 +1,6 @@
 use Rattle.std.proofs.Common.{◌≡◌, min, ◌+◌, ◌≤◌, drop}
 use Rattle.circuit.specs.Signal.{sig_width}
-use Rattle.circuit.proofs.validity.signals.sig_width.Given as goal
+use Rattle.circuit.proofs.validity.signals.capped_width.Given as goal
 
 abbrev pub invariant-loop-piece : goal.invariant-loop-piece
 invariant-loop-piece l =
