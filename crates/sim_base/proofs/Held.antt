@@ -29,12 +29,12 @@ module _ (words ws places : List ℕ) (values : List BitValue) (n : ℕ) (laid :
   pub inside_places : n < length places
   inside_places = omega (arith, inside, laid.shape)
 
-  -- a place as it is read
-  pub place_is : (p : ℕ) → p ≡ get_or places n p → p ≡ place_of ws n
-  place_is p e = get_or_read places n p inside_places e 0 ∙ laid.placed n inside
-
   pub widths_is : widths values ≡ ws
   widths_is = ap widths (sym view) ∙ widths_of_values ws words
+
+  -- a place as it is read
+  pub place_is : (p : ℕ) → p ≡ place_of (widths values) n → p ≡ place_of ws n
+  place_is p e = e ∙ ap (λ (l : List ℕ). place_of l n) widths_is
 
   pub width_is : width_at values n ≡ get_or ws n 0
   width_is = ap (λ (l : List BitValue). width_at l n) (sym view) ∙ ap (λ (l : List ℕ). get_or l n 0) (widths_of_values ws words)
@@ -164,12 +164,12 @@ pub widths_kept : (values : List BitValue) (n m : ℕ) → widths (set values n 
 widths_kept values n m = map-set (λ (v : BitValue). v.width) values n (bit_value (width_at values n) m) ∙ set-get_or (widths values) n 0
 
 -- the words of a value, as a part of all
-module _ (words ws places : List ℕ) (values : List BitValue) (n p w : ℕ) (laid : IsLaidOut words ws places) (view : values_of ws words ≡ values) (lt : n < length values) (e : p ≡ get_or places n p) (f : w ≡ get_or ws n w) where
+module _ (words ws places : List ℕ) (values : List BitValue) (n p w : ℕ) (laid : IsLaidOut words ws places) (view : values_of ws words ≡ values) (lt : n < length values) (e : p ≡ place_of (widths values) n) (f : w ≡ width_at values n) where
   width_read : w ≡ get_or ws n 0
-  width_read = get_or_read ws n w (inside words ws places values n laid view lt) f 0
+  width_read = f ∙ width_is words ws places values n laid view lt
 
   pub part_width : width_at values n ≡ w
-  part_width = width_is words ws places values n laid view lt ∙ sym width_read
+  part_width = sym f
 
   part_place : p ≡ place_of ws n
   part_place = place_is words ws places values n laid view lt p e

@@ -10,7 +10,7 @@ use Rattle.sim_base.specs.BitValue.{BitValue, bit_value, number_of_words, digit_
 use Rattle.sim_base.proofs.Field.{bit_at_mod, bit_at_shr}
 use Rattle.sim_base.proofs.Words.{copied_in, copied_below, copied_above, copied_none, same_words, fit_set}
 use Rattle.sim_base.proofs.Copies.{copied_word, copied_number_below, copied_join, placed_word, placed_below}
-use Rattle.sim_base.specs.Values.{width_at, number_at, words_of, place_of, values_of, with_number, IsLaidOut, IsPut}
+use Rattle.sim_base.specs.Values.{widths, width_at, number_at, words_of, place_of, values_of, with_number, IsLaidOut, IsPut}
 use Rattle.sim_base.proofs.Blocks.{block}
 use Rattle.sim_base.proofs.Held.{width_is, place_is, below, number_of_block, length_of_block, fit_block, word_of_block, word_inside, set_view, set_laid, numbers_set, widths_kept}
 
@@ -89,7 +89,7 @@ told_word ws k x fit fits lt = elim (eqb_tells (get_or ws k 0) x) [
       f.1 (ap (λ (l : List ℕ). get_or l k 0) (sym s) ∙ get_or-set_same ws k x 0 lt)))
 ]
 
-pub digit_inside : (words ws places : List ℕ) (values : List BitValue) (n i p at k : ℕ) (laid : IsLaidOut words ws places) (view : values_of ws words ≡ values) (lt : n < length values) → p ≡ get_or places n p → i ≡ p + at / 64 → 0 < k → at + k ≤ width_at values n → i < length words
+pub digit_inside : (words ws places : List ℕ) (values : List BitValue) (n i p at k : ℕ) (laid : IsLaidOut words ws places) (view : values_of ws words ≡ values) (lt : n < length values) → p ≡ place_of (widths values) n → i ≡ p + at / 64 → 0 < k → at + k ≤ width_at values n → i < length words
 digit_inside words ws places values n i p at k laid view lt e f some inside =
     let w = width_is words ws places values n laid view lt in
     let q = place_is words ws places values n laid view lt p e in
@@ -136,7 +136,7 @@ module _ (words ws places : List ℕ) (values : List BitValue) (n i at k v word 
   digits_copied = word_copied words ws places values n i (at / 64) at v k word laid view lt e word_in fits bits_block
 
 -- a whole word
-module _ (words ws places : List ℕ) (values : List BitValue) (n i p k word : ℕ) (laid : IsLaidOut words ws places) (view : values_of ws words ≡ values) (lt : n < length values) (e : p ≡ get_or places n p) (f : i ≡ p + k) (inside : 64 * k < width_at values n) (low : word < 2 ^ (width_at values n - 64 * k)) (fits : word < 2 ^ 64) where
+module _ (words ws places : List ℕ) (values : List BitValue) (n i p k word : ℕ) (laid : IsLaidOut words ws places) (view : values_of ws words ≡ values) (lt : n < length values) (e : p ≡ place_of (widths values) n) (f : i ≡ p + k) (inside : 64 * k < width_at values n) (low : word < 2 ^ (width_at values n - 64 * k)) (fits : word < 2 ^ 64) where
   place : i ≡ place_of ws n + k
   place = omega (arith, f, place_is words ws places values n laid view lt p e)
 

@@ -1,8 +1,8 @@
 //! The values of many parts of a circuit in one array of words.
-ghost use Rattle.std.specs.Prelude.{◌≡◌, ℕ, ◌+◌, ◌-◌, ◌*◌, ◌/◌, ◌%◌, ◌^◌, ◌<◌, ◌≤◌, ◌==◌, not, length, map, slice_get, slice_index, slice_set, Some, IfOk};
+ghost use Rattle.std.specs.Prelude.{◌≡◌, ℕ, ◌+◌, ◌-◌, ◌*◌, ◌/◌, ◌%◌, ◌^◌, ◌<◌, ◌≤◌, ◌==◌, not, length, map, slice_get, slice_index, slice_set, Some, IfOk, IfSome, IsSome, ◌↔◌};
 ghost use Rattle.std.specs.Int.{bit_at};
 ghost use Rattle.sim_base.specs.BitValue.{BitValue, bit_value, digit_after_copy, zeros};
-ghost use Rattle.sim_base.specs.Values.{IsPut, number_at, width_at, widths, with_number, words_of};
+ghost use Rattle.sim_base.specs.Values.{IsPut, number_at, place_of, width_at, widths, with_number, words_of};
 
 use crate::bits::{Bits, merged};
 use crate::memory::NoMemory;
@@ -10,27 +10,35 @@ use crate::view::BitsView;
 use std::alloc::Global;
 use std::marker::Model;
 
+/// Where a value stands among the words of all.
+#[derive(Clone, Copy, Debug)]
+struct Span {
+    /// The place of its first word.
+    place: u32,
+    /// In bits.
+    width: u32,
+}
+
 /// Values of bits, which contracts see as the list of them. All stand in one array of words, so that a value of at most
 /// 64 bits takes 16 bytes.
 #[derive(Debug, Drop)]
 pub struct Values {
     /// The words of all values, one value after another, the least word of each first. Each has one word at least.
     words: Vec<u64>,
-    widths: Vec<u32>,
-    /// For each value the place of its first word.
-    places: Vec<u32>,
+    /// For each value where it stands. One look-up gives its place and its width.
+    spans: Vec<Span>,
 }
 
 impl Model for Values {
-    ghost use Rattle.std.specs.Prelude.{List};
+    ghost use Rattle.std.specs.Prelude.{List, map};
     ghost use Rattle.sim_base.specs.BitValue.{BitValue};
     ghost use Rattle.sim_base.specs.Values.{values_of, IsLaidOut};
 
     ghost Value = { List BitValue };
 
-    ghost view = { λ v. values_of v.widths.items v.words.items };
+    ghost view = { λ v. values_of (map (λ s. s.width) v.spans.items) v.words.items };
 
-    ghost invariant = { λ v. IsLaidOut v.words.items v.widths.items v.places.items };
+    ghost invariant = { λ v. IsLaidOut v.words.items (map (λ s. s.width) v.spans.items) (map (λ s. s.place) v.spans.items) };
 }
 
 impl Values {
@@ -38,22 +46,20 @@ impl Values {
     pub fn new(alloc: Global, widths: &[u32]) -> Result<Values, NoMemory>
         ensures { IfOk result (λ values. values ≡ map zeros widths.now) }
     {
-        let mut places = Vec::with_capacity(alloc, widths.len())?;
-        let mut room = 0u32;
+        let mut spans = Vec::with_capacity(alloc, widths.len())?;
+        let mut place = 0u32;
         for width in widths {
-            places.push(room)?;
-            let Some(next) = room.checked_add(words_of(*width)) else {
+            spans.push(Span {
+                place,
+                width: *width,
+            })?;
+            let Some(next) = place.checked_add(words_of(*width)) else {
                 return Err(NoMemory);
             };
-            room = next;
+            place = next;
         }
-        let words = vec![in alloc; 0u64; room as usize]?;
-        let widths = Vec::from_slice(alloc, widths)?;
-        Ok(Values {
-            words,
-            widths,
-            places,
-        })
+        let words = vec![in alloc; 0u64; place as usize]?;
+        Ok(Values { words, spans })
     }
 
     /// These values.
@@ -74,7 +80,18 @@ impl Values {
         ensures few { length self.now < 2 ^ 32 }
     {
         let _ = &self.words;
-        self.widths.len()
+        self.spans.len()
+    }
+
+    /// Where the value at a place stands.
+    #[inline(always)]
+    fn span(&self, n: u32) -> Span
+        requires { n < length self.now }
+        ensures place { result.place ≡ place_of (widths self.now) n }
+        ensures width { result.width ≡ width_at self.now n }
+    {
+        let _ = &self.words;
+        self.spans[n as usize]
     }
 
     /// The width of the value at a place, in bits.
@@ -85,7 +102,7 @@ impl Values {
         ensures below { number_at self.now n < 2 ^ width_at self.now n }
     {
         let _ = &self.words;
-        self.widths[n as usize]
+        self.span(n).width
     }
 
     /// The number of the value at a place, of at most 64 bits.
@@ -95,7 +112,25 @@ impl Values {
         requires small { width_at self.now n ≤ 64 }
         ensures { result ≡ number_at self.now n }
     {
-        self.words[self.places[n as usize] as usize]
+        let place = self.span(n).place as usize;
+        self.words[place]
+    }
+
+    /// The number of the value at a place, where it has this width, at most 64.
+    #[inline(always)]
+    pub fn word_of_width(&self, n: u32, width: u32) -> Option<u64>
+        requires there { n < length self.now }
+        requires small { width ≤ 64 }
+        ensures width { IfSome result (λ number. width_at self.now n ≡ width) }
+        ensures value { IfSome result (λ number. number ≡ number_at self.now n) }
+        ensures below { IfSome result (λ number. number < 2 ^ width) }
+        ensures some { IsSome result ↔ (width_at self.now n ≡ width) }
+    {
+        let span = self.span(n);
+        if span.width != width {
+            return None;
+        }
+        Some(self.words[span.place as usize])
     }
 
     /// The value at a place.
@@ -104,12 +139,12 @@ impl Values {
         requires { n < length self.now }
         ensures { result ≡ bit_value (width_at self.now n) (number_at self.now n) }
     {
-        let start = self.places[n as usize] as usize;
-        let width = self.widths[n as usize];
-        let len = (width as usize + 63) / 64;
+        let span = self.span(n);
+        let start = span.place as usize;
+        let len = (span.width as usize + 63) / 64;
         BitsView {
             words: &self.words[start..start + len],
-            width,
+            width: span.width,
         }
     }
 
@@ -121,7 +156,7 @@ impl Values {
         requires below { v < 2 ^ width_at self.old n }
         ensures { IsPut n v self.old self.new result }
     {
-        let place = self.places[n as usize] as usize;
+        let place = self.span(n).place as usize;
         store(&mut self.words, place, v)
     }
 
@@ -159,7 +194,7 @@ impl Values {
         ensures bits { (j : ℕ) → bit_at (number_at self.new n) j ≡ digit_after_copy at v 0 k (number_at self.old n) j }
         ensures changed { result ≡ not (number_at self.new n == number_at self.old n) }
     {
-        let place = self.places[n as usize] as usize + (at / 64) as usize;
+        let place = self.span(n).place as usize + (at / 64) as usize;
         let word = merged(self.words[place], at % 64, k, v);
         store(&mut self.words, place, word)
     }
@@ -175,7 +210,7 @@ impl Values {
         ensures bits { (j : ℕ) → bit_at (number_at self.new n) j ≡ digit_after_copy (64 * place) word 0 64 (number_at self.old n) j }
         ensures changed { result ≡ not (number_at self.new n == number_at self.old n) }
     {
-        let at = self.places[n as usize] as usize + place as usize;
+        let at = self.span(n).place as usize + place as usize;
         store(&mut self.words, at, word)
     }
 
@@ -219,10 +254,8 @@ impl Values {
         requires { widths self.old ≡ widths from.now }
         ensures { self.new ≡ from.now }
     {
-        let _ = &self.widths;
-        let _ = &self.places;
-        let _ = &from.widths;
-        let _ = &from.places;
+        let _ = &self.spans;
+        let _ = &from.spans;
         self.words.copy_from_slice(from.words.as_slice());
     }
 }

@@ -1,43 +1,69 @@
-use Rattle.std.proofs.Common.{◌≡◌, ◌<◌, ◌^◌, ℕ, ◌∙◌, List, [], ◌∷◌, length, get_or, replicate, sym, ap, subst, arith, length-append}
+use Rattle.std.proofs.Common.{◌≡◌, ◌<◌, ◌^◌, ◌+◌, suc, ℕ, ◌∙◌, List, [], ◌∷◌, ◌++◌, length, get_or, map, take, replicate, take_all, sym, ap, subst, arith, length-append}
+use Rattle.std.proofs.lemmas.List.{map-append, length-map, get_or_read}
+use Rattle.std.proofs.Math.Seq.{take-suc}
+use Rattle.sim_base.specs.BitValue.{BitValue}
 use Rattle.sim_base.specs.Values.{place_of, room_of, values_of, IsLaidOut}
+use Rattle.sim_base.specs.declared.values.Span.{Span}
 use Rattle.sim_base.proofs.Blocks.{place_start, place_step, place_end, values_of_zeros}
 use Rattle.sim_base.proofs.Held.{laid_zeros, placed_more}
 use Rattle.sim_base.proofs.values.Values.new.Goals as goal
-use Rattle.sim_base.proofs.values.Values.new.Goals.{In_ok-widths}
+use Rattle.sim_base.proofs.values.Values.new.Goals.{In_ok-words}
+
+abbrev widths_in : List Span → List ℕ
+widths_in spans = map (λ s. s.width) spans
+
+abbrev places_in : List Span → List ℕ
+places_in spans = map (λ s. s.place) spans
 
 pub loop-width-init : goal.loop-width-init
 loop-width-init c = record {
-  shape = ap (λ (l : List ℕ). length l) c.in_ok-places.ensures.items;
+  shape = ap (λ (l : List Span). length l) c.in_ok-spans.ensures.items;
+  written = ap widths_in c.in_ok-spans.ensures.items;
   placed = λ n h. absurd (omega arith);
   room = sym (place_start c.args.widths.now);
 }
 
 pub loop-width-preserved : goal.loop-width-preserved
-loop-width-preserved c = record {
-  shape = omega (arith, ap (λ (l : List ℕ). length l) c.in_ok-push.ensures.items, length-append c.loop-width.places.items (c.loop-width.room ∷ []), c.loop-width.invariant.shape);
-  placed = λ n h. ap (λ (l : List ℕ). get_or l n 0) c.in_ok-push.ensures.items
-      ∙ placed_more c.args.widths.now c.loop-width.places.items c.loop-width.width-index c.loop-width.room c.loop-width.invariant.shape c.loop-width.invariant.room c.loop-width.invariant.placed n h;
-  room = c.in-Some.ensures.1 ∙ omega (arith, c.words_of.ensures, c.loop-width.invariant.room, place_step c.args.widths.now c.loop-width.width-index c.loop-width-test.true);
-}
+loop-width-preserved c =
+    let e = c.in_ok-push.ensures.items in
+    let i = c.loop-width.width-index in
+    let new : Span = record { place = c.loop-width.place; width = get_or c.args.widths.now i 0 } in
+    let l : length (places_in c.loop-width.spans.items) ≡ i = length-map c.loop-width.spans.items (λ (s : Span). s.place) ∙ c.loop-width.invariant.shape in
+    let z : suc i ≡ i + 1 = omega arith in
+    record {
+      shape = ap (λ (l : List Span). length l) e ∙ length-append c.loop-width.spans.items (new ∷ []) ∙ ap (λ n. n + 1) c.loop-width.invariant.shape;
+      written = ap widths_in e ∙ map-append (λ (s : Span). s.width) c.loop-width.spans.items (new ∷ [])
+          ∙ ap (λ (l : List ℕ). l ++ get_or c.args.widths.now i 0 ∷ []) c.loop-width.invariant.written
+          ∙ sym (take-suc c.args.widths.now i 0 c.loop-width-test.true)
+          ∙ ap (λ n. take n c.args.widths.now) z;
+      placed = λ n h. ap (λ (l : List ℕ). get_or l n 0) (ap places_in e ∙ map-append (λ (s : Span). s.place) c.loop-width.spans.items (new ∷ []))
+          ∙ placed_more c.args.widths.now (places_in c.loop-width.spans.items) i c.loop-width.place l c.loop-width.invariant.room c.loop-width.invariant.placed n h;
+      room = c.in-Some.ensures.1 ∙ omega (arith, c.words_of.ensures, c.loop-width.invariant.room, place_step c.args.widths.now i c.loop-width-test.true);
+    }
 
-few : (c : In_ok-widths) → c.loop-width.room < 2 ^ 32
+few : (c : In_ok-words) → c.loop-width.place < 2 ^ 32
 few c = search
 
-room : (c : In_ok-widths) → c.loop-width.room ≡ room_of c.args.widths.now
-room c = let end : c.loop-width.width-index ≡ length c.args.widths.now = omega arith in c.loop-width.invariant.room ∙ ap (place_of c.args.widths.now) end ∙ place_end c.args.widths.now
+all : (c : In_ok-words) → c.loop-width.width-index ≡ length c.args.widths.now
+all c = omega arith
 
-words : (c : In_ok-widths) → c.in_ok-words.words.items ≡ replicate {A = ℕ} c.loop-width.room 0
+room : (c : In_ok-words) → c.loop-width.place ≡ room_of c.args.widths.now
+room c = c.loop-width.invariant.room ∙ ap (place_of c.args.widths.now) (all c) ∙ place_end c.args.widths.now
+
+words : (c : In_ok-words) → c.in_ok-words.words.items ≡ replicate {A = ℕ} c.loop-width.place 0
 words c = c.in_ok-words.ensures.items_if_clones_equal (λ y e. e)
+
+spans : (c : In_ok-words) → widths_in c.loop-width.spans.items ≡ c.args.widths.now
+spans c = c.loop-width.invariant.written ∙ take_all c.loop-width.width-index c.args.widths.now (omega (arith, all c))
 
 pub invariant_of-result : goal.invariant_of-result
 invariant_of-result c =
-    let end : c.loop-width.width-index ≡ length c.args.widths.now = omega arith in
-    subst (λ (l : List ℕ). IsLaidOut c.in_ok-words.words.items l c.loop-width.places.items) (sym c.in_ok-widths.ensures.items)
-    (subst (λ (l : List ℕ). IsLaidOut l c.args.widths.now c.loop-width.places.items) (sym (words c))
-    (laid_zeros c.args.widths.now c.loop-width.places.items c.loop-width.room (few c) (room c) (c.loop-width.invariant.shape ∙ end) (λ n lt. c.loop-width.invariant.placed n (omega arith))))
+    subst (λ (l : List ℕ). IsLaidOut c.in_ok-words.words.items l (places_in c.loop-width.spans.items)) (sym (spans c))
+    (subst (λ (l : List ℕ). IsLaidOut l c.args.widths.now (places_in c.loop-width.spans.items)) (sym (words c))
+    (laid_zeros c.args.widths.now (places_in c.loop-width.spans.items) c.loop-width.place (few c) (room c) (length-map c.loop-width.spans.items (λ (s : Span). s.place) ∙ c.loop-width.invariant.shape ∙ all c) (λ n lt. c.loop-width.invariant.placed n (omega (arith, lt, all c)))))
 
 pub returns : goal.returns
 returns c =
-    ap (λ (l : List ℕ). values_of l c.in_ok-words.words.items) c.in_ok-widths.ensures.items
+    ap (λ (l : List ℕ). values_of l c.in_ok-words.words.items) (spans c)
     ∙ ap (λ (l : List ℕ). values_of c.args.widths.now l) (words c)
-    ∙ values_of_zeros c.args.widths.now c.loop-width.room (omega (arith, room c))
+    ∙ values_of_zeros c.args.widths.now c.loop-width.place (omega (arith, room c))

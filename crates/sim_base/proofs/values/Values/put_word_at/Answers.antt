@@ -1,24 +1,22 @@
-use Rattle.std.proofs.Common.{◌≡◌, ◌+◌, ◌*◌, List, ℕ, sym, subst, arith, refl}
+use Rattle.std.proofs.Common.{map, ◌≡◌, ◌+◌, ◌*◌, List, ℕ, sym, subst, arith, refl}
 use Rattle.sim_base.specs.Values.{values_of, IsLaidOut}
 use Rattle.sim_base.proofs.Held.{inside_places}
 use Rattle.sim_base.proofs.Written.{IsCopied, whole_inside, whole_laid, whole_copied}
+use Rattle.sim_base.specs.declared.values.Span.{Span}
 use Rattle.sim_base.proofs.values.Values.put_word_at.Goals as goal
 
-pub index-requires : goal.index-requires
-index-requires c = let i = inside_places _ _ _ _ c.args.n c.self.invariant c.self.view_is c.requires.there in let l = c.self.inside.places.ok.0 in omega arith
-
 pub store-requires : goal.store-requires
-store-requires c = whole_inside _ _ _ _ c.args.n (c.index.result.now + c.args.place) c.index.result.now c.args.place c.args.word c.self.invariant c.self.view_is c.requires.there c.index.ensures refl c.requires.inside c.requires.below c.ranges.word.fits
+store-requires c = whole_inside _ _ _ _ c.args.n (c.span.result.place + c.args.place) c.span.result.place c.args.place c.args.word c.self.invariant c.self.view_is c.requires.there c.span.ensures.place refl c.requires.inside c.requires.below c.ranges.word.fits
 
 pub invariant_of-self : goal.invariant_of-self
 invariant_of-self c =
-    subst (λ (l : List ℕ). IsLaidOut l c.self.inside.widths.items c.self.inside.places.items) (sym c.store.ensures.items)
-    (whole_laid _ _ _ _ c.args.n (c.index.result.now + c.args.place) c.index.result.now c.args.place c.args.word c.self.invariant c.self.view_is c.requires.there c.index.ensures refl c.requires.inside c.requires.below c.ranges.word.fits)
+    subst (λ (l : List ℕ). IsLaidOut l (map (λ (s : Span). s.width) c.self.inside.spans.items) (map (λ (s : Span). s.place) c.self.inside.spans.items)) (sym c.store.ensures.items)
+    (whole_laid _ _ _ _ c.args.n (c.span.result.place + c.args.place) c.span.result.place c.args.place c.args.word c.self.invariant c.self.view_is c.requires.there c.span.ensures.place refl c.requires.inside c.requires.below c.ranges.word.fits)
 
-copied : (c : goal.After-store) → IsCopied c.args.self.now (values_of c.self.inside.widths.items c.store.new.words.items) c.args.n (64 * c.args.place) c.args.word 0 64 c.store.result
+copied : (c : goal.After-store) → IsCopied c.args.self.now (values_of (map (λ (s : Span). s.width) c.self.inside.spans.items) c.store.new.words.items) c.args.n (64 * c.args.place) c.args.word 0 64 c.store.result
 copied c =
-    subst (λ (l : List ℕ). IsCopied c.args.self.now (values_of c.self.inside.widths.items l) c.args.n (64 * c.args.place) c.args.word 0 64 c.store.result) (sym c.store.ensures.items)
-    (whole_copied _ _ _ _ c.args.n (c.index.result.now + c.args.place) c.index.result.now c.args.place c.args.word c.self.invariant c.self.view_is c.requires.there c.index.ensures refl c.requires.inside c.requires.below c.ranges.word.fits c.store.result c.store.ensures.changed)
+    subst (λ (l : List ℕ). IsCopied c.args.self.now (values_of (map (λ (s : Span). s.width) c.self.inside.spans.items) l) c.args.n (64 * c.args.place) c.args.word 0 64 c.store.result) (sym c.store.ensures.items)
+    (whole_copied _ _ _ _ c.args.n (c.span.result.place + c.args.place) c.span.result.place c.args.place c.args.word c.self.invariant c.self.view_is c.requires.there c.span.ensures.place refl c.requires.inside c.requires.below c.ranges.word.fits c.store.result c.store.ensures.changed)
 
 pub returns-clause-value : goal.returns-clause-value
 returns-clause-value c = (copied c).value
