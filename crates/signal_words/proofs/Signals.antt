@@ -42,6 +42,10 @@ whole_net values net at w v h e same lt =
     part_field values net at w ∙ ap (λ x. x / 2 ^ at % 2 ^ w) (number_read values net v e) ∙ ap (λ k. v.number / 2 ^ k % 2 ^ w) none ∙ whole_field v.number w lt in
     same_value v.width w v.number (piece_number (digits_in values) (piece.Part net at w)) (sym same) (sym n)
 
+pub whole_number : (values : List BitValue) (net at w x : ℕ) → IsInside values (piece.Part net at w) → width_at values net ≡ w → x ≡ number_at values net → x < 2 ^ w → x ≡ piece_number (digits_in values) (piece.Part net at w)
+whole_number values net at w x h same number below =
+    number ∙ ap (λ (v : BitValue). v.number) (whole_net values net at w (bit_value (width_at values net) (number_at values net)) h refl (sym same) (subst (λ n. n < 2 ^ w) number below))
+
 -- ---- a signal's first pieces
 
 sig_push : (d : Digits) (xs : List Piece) (p : Piece) → sig_number d (xs ++ p ∷ []) ≡ piece_number d p * 2 ^ sig_width xs + sig_number d xs

@@ -42,6 +42,13 @@ one_value_is values ps p None some few e is = tt
 one_value_is values ps p (Some v) some few e is =
     is ∙ ap (λ w. bit_value w (piece_number (digits_in values) p)) (one_width ps p some few e) ∙ ap (bit_value (sig_width ps)) (one_number (digits_in values) ps p some few e)
 
+-- the number of the only piece, of this width
+pub whole_word_is : (values : List BitValue) (ps : List Piece) (p : Piece) (w : ℕ) (read : Option ℕ) → 1 ≤ length ps → length ps < 2 → p ≡ get_or ps 0 p
+    → IfSome read (λ x. piece_width p ≡ w) → IfSome read (λ x. x ≡ piece_number (digits_in values) p) → IfSome read (λ x. bit_value w x ≡ sig_value (digits_in values) ps)
+whole_word_is values ps p w None some few e same number = tt
+whole_word_is values ps p w (Some x) some few e same number =
+    ap (λ k. bit_value k x) (sym same ∙ one_width ps p some few e) ∙ ap (bit_value (sig_width ps)) (number ∙ one_number (digits_in values) ps p some few e)
+
 -- the word of a value that has one
 pub word_is : (values : List BitValue) (ps : List Piece) (v : BitValue) (width number : ℕ) → v ≡ sig_value (digits_in values) ps → width ≡ v.width → number ≡ v.number → v.width ≤ 64 → v.number < 2 ^ v.width → IsWordOf values ps width number
 word_is values ps v width number e w n small below = record {

@@ -38,22 +38,7 @@ pub fn piece_field(piece: &Piece, nets: &Values, at: u32, n: u32) -> u64
     }
 }
 
-/// The number of a part of a value. Most parts are the whole value, and those need no shift.
-#[inline(always)]
-fn part_word(value: &BitsView, at: u32, width: u32) -> u64
-    requires small { width ≤ 64 }
-    requires inside { at + width ≤ value.now.width }
-    ensures value { result ≡ value.now.number / 2 ^ at % 2 ^ width }
-    ensures below { result < 2 ^ width }
-{
-    if width == value.width() {
-        value.word()
-    } else {
-        value.field(at, width)
-    }
-}
-
-/// The number of a piece.
+/// The number of a piece of at most 64 bits. Most pieces are whole nets, and those need no shift.
 #[inline(always)]
 pub fn piece_word(piece: &Piece, nets: &Values) -> u64
     requires inside { IsInside nets.now piece.now }
@@ -66,7 +51,29 @@ pub fn piece_word(piece: &Piece, nets: &Values) -> u64
             let _ = value.width();
             value.word()
         }
-        Piece::Part { net, at, width } => part_word(&nets.view(*net), *at, *width),
+        Piece::Part { net, at, width } => match nets.word_of_width(*net, *width) {
+            Some(word) => word,
+            None => nets.view(*net).field(*at, *width),
+        },
+    }
+}
+
+/// The number of a piece that is a whole value of this width, at most 64 bits: a constant, or a net. One look-up tells
+/// whether it is.
+#[inline(always)]
+pub fn piece_of_width(piece: &Piece, nets: &Values, width: u32) -> Option<u64>
+    requires inside { IsInside nets.now piece.now }
+    requires small { width ≤ 64 }
+    ensures width { IfSome result (λ number. piece_width piece.now ≡ width) }
+    ensures value { IfSome result (λ number. number ≡ piece_number (digits_in nets.now) piece.now) }
+    ensures below { IfSome result (λ number. number < 2 ^ width) }
+{
+    match piece {
+        Piece::Const(value) if value.width() == width => Some(value.word()),
+        Piece::Part {
+            net, width: part, ..
+        } if *part == width => nets.word_of_width(*net, width),
+        _ => None,
     }
 }
 

@@ -1,17 +1,18 @@
 //! Signals of one word.
 ghost use Rattle.std.specs.Prelude.{◌≡◌, ◌<◌, ◌≤◌, ◌^◌, ◌↔◌, IfSome, IsSome};
+ghost use Rattle.sim_base.specs.BitValue.{bit_value};
 ghost use Rattle.circuit.specs.Signal.{piece_number, piece_width, sig_value, sig_width};
 ghost use Rattle.signal_words.specs.Values.{digits_in, AreInside, IsInside, IsWordOf};
 
-use crate::piece::{piece_value, piece_width, piece_word};
+use crate::piece::{piece_of_width, piece_value, piece_width, piece_word};
 use crate::signal::{sig_width, sig_word};
-use crate::values::{SigWord, is_one_word, word_of_value};
+use crate::values::SigWord;
 use circuit::Piece;
 use sim_base::{BitsView, Values};
 
-/// The width and the number of a piece of at most 64 bits that is less than a net.
+/// The width and the number of a piece of at most 64 bits.
 #[inline(always)]
-fn word_of_part(piece: &Piece, nets: &Values) -> Option<SigWord>
+fn word_of_piece(piece: &Piece, nets: &Values) -> Option<SigWord>
     requires { IsInside nets.now piece.now }
     ensures small { IfSome result (λ word. word.width ≤ 64) }
     ensures width { IfSome result (λ word. word.width ≡ piece_width piece.now) }
@@ -26,26 +27,7 @@ fn word_of_part(piece: &Piece, nets: &Values) -> Option<SigWord>
     Some(SigWord { width, number })
 }
 
-/// The width and the number of a piece of 1 to 64 bits, or of a part of at most 64. Most pieces are whole values,
-/// and those need no cut.
-#[inline(always)]
-fn word_of_piece(piece: &Piece, nets: &Values) -> Option<SigWord>
-    requires { IsInside nets.now piece.now }
-    ensures small { IfSome result (λ word. word.width ≤ 64) }
-    ensures width { IfSome result (λ word. word.width ≡ piece_width piece.now) }
-    ensures number { IfSome result (λ word. word.number ≡ piece_number (digits_in nets.now) piece.now) }
-    ensures below { IfSome result (λ word. word.number < 2 ^ word.width) }
-{
-    let Some(value) = piece_value(piece, nets) else {
-        return word_of_part(piece, nets);
-    };
-    if is_one_word(value.width()) {
-        return Some(word_of_value(&value));
-    }
-    None
-}
-
-/// The width and the number of a signal that is one piece of 1 to 64 bits, or has no piece. Most signals are, and
+/// The width and the number of a signal that is one piece of at most 64 bits, or has no piece. Most signals are, and
 /// they are read without a loop.
 #[inline(always)]
 pub fn one_word(sig: &[Piece], nets: &Values) -> Option<SigWord>
@@ -85,6 +67,20 @@ pub fn whole_value<'a>(sig: &'a [Piece], nets: &'a Values) -> Option<BitsView<'a
 {
     match sig {
         [piece] => piece_value(piece, nets),
+        _ => None,
+    }
+}
+
+/// The number of a signal of this width, at most 64 bits, where it is one piece: a constant, or a whole net.
+#[inline(always)]
+pub fn whole_word(sig: &[Piece], nets: &Values, width: u32) -> Option<u64>
+    requires inside { AreInside nets.now sig.now }
+    requires small { width ≤ 64 }
+    ensures value { IfSome result (λ number. bit_value width number ≡ sig_value (digits_in nets.now) sig.now) }
+    ensures below { IfSome result (λ number. number < 2 ^ width) }
+{
+    match sig {
+        [piece] => piece_of_width(piece, nets, width),
         _ => None,
     }
 }
