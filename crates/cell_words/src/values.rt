@@ -2,7 +2,6 @@
 ghost use Rattle.std.specs.Prelude.{◌≡◌, ℕ, int_lt, ◌%◌, ◌^◌, ◌<◌, ◌≤◌, ◌↔◌, true, IsTrue};
 ghost use Rattle.sim_base.specs.BitValue.{digit_of};
 ghost use Rattle.circuit.specs.Output.{CellInputs, formula, left, modulo, operand, right, truth};
-ghost use Rattle.cell_words.specs.Shifts.{is_below_zero};
 ghost use Rattle.cell_words.specs.Kinds.{is_comparison, is_modular};
 
 use circuit::Op;
@@ -61,14 +60,4 @@ pub fn digit(told: bool) -> u64
     ensures { result ≡ digit_of told }
 {
     u64::from(told)
-}
-
-/// Whether a word stands for a number below 0, in two's complement where signed.
-#[inline(always)]
-pub fn is_negative(signed: bool, width: u32, word: u64) -> bool
-    requires some { 0 < width }
-    requires small { width ≤ 64 }
-    ensures { result ≡ is_below_zero signed width word }
-{
-    signed && (word >> (width - 1)) & 1 == 1
 }

@@ -1,4 +1,5 @@
 use Rattle.std.proofs.Common.{◌≡◌, ◌%◌, ◌^◌, ◌≤◌, ◌∙◌, ◌&&◌, ap, refl, sym, subst}
+use Rattle.sim_base.specs.BitValue.{bit_value}
 use Rattle.circuit.specs.Output.{formula, cell_inputs, modulo, output}
 use Rattle.circuit.specs.Signal.{sig_value}
 use Rattle.signal_words.specs.Values.{digits_in}
@@ -12,14 +13,16 @@ number c =
     let cell = c.args.cell.now in
     let i = cell_inputs digits cell in
     let signed = cell.a_signed && cell.b_signed in
-    let wide : cell.width ≡ cell.width = refl in
-    let a : c.in-Some.a ≡ i.a = c.in-Some.ensures ∙ ap (sig_value digits) c.as_slice.ensures in
-    let b : c.in-Some-whole_value.b ≡ i.b = c.in-Some-whole_value.ensures ∙ ap (sig_value digits) c.as_slice-in-Some.ensures in
-    c.low_digits-word.ensures ∙ ap (λ k. c.combined-number.result % 2 ^ k) wide
-    ∙ c.combined-number.ensures i cell.width (subst (λ w. w ≤ 64) wide (c.if-is_one_word.ensures.0 refl).1)
-    (value_digits signed cell.width c.only_word.result c.in-Some.a i.a a (sym c.width.ensures.value ∙ c.if-width.true ∙ wide) c.only_word.ensures.below c.only_word.ensures.value)
-    (value_digits signed cell.width c.only_word-then-is_one_word.result c.in-Some-whole_value.b i.b b (sym c.width-then-width.ensures.value ∙ c.if-width-2.true ∙ wide) c.only_word-then-is_one_word.ensures.below c.only_word-then-is_one_word.ensures.value)
-    ∙ ap (λ o. modulo cell.width (formula o i)) (sym c.requires.op)
+    let w = cell.width in
+    let x = c.in-Some.a in
+    let y = c.in-Some-whole_word.b in
+    let a : bit_value w x ≡ i.a = c.in-Some.ensures.value ∙ ap (sig_value digits) c.as_slice.ensures in
+    let b : bit_value w y ≡ i.b = c.in-Some-whole_word.ensures.value ∙ ap (sig_value digits) c.as_slice-in-Some.ensures in
+    c.low_digits-word.ensures
+    ∙ c.combined.ensures i w (c.if-is_one_word.ensures.0 refl).1
+    (value_digits signed w x (bit_value w x) i.a a refl c.in-Some.ensures.below refl)
+    (value_digits signed w y (bit_value w y) i.b b refl c.in-Some-whole_word.ensures.below refl)
+    ∙ ap (λ o. modulo w (formula o i)) (sym c.requires.op)
 
-pub returns-then-is_one_word : goal.returns-then-is_one_word
-returns-then-is_one_word c = same_put _ _ _ _ _ _ (number c) c.put_word.ensures
+pub returns-in-Some-whole_word : goal.returns-in-Some-whole_word
+returns-in-Some-whole_word c = same_put _ _ _ _ _ _ (number c) c.put_word.ensures

@@ -1,4 +1,5 @@
 use Rattle.std.proofs.Common.{◌≡◌, ◌<◌, ◌^◌, ◌∙◌, ◌&&◌, ap, refl, sym, subst}
+use Rattle.sim_base.specs.BitValue.{bit_value}
 use Rattle.circuit.specs.Output.{formula, cell_inputs, modulo, output}
 use Rattle.circuit.specs.Signal.{sig_value}
 use Rattle.signal_words.specs.Values.{digits_in}
@@ -10,7 +11,7 @@ use Rattle.cell_words.proofs.computing.comparison.Goals as goal
 pub put_word-requires-clause-below : goal.put_word-requires-clause-below
 put_word-requires-clause-below c =
     let w = (width_at c.args.into.now c.args.out) in
-    subst (λ n. n < 2 ^ w) (sym c.digit.ensures) (truth_below w c.compared-told.result (subst (λ k. 0 < k) (sym c.requires.ready.into_width) (c.if-is_one_word-2.ensures.0 refl).0))
+    subst (λ n. n < 2 ^ w) (sym c.digit.ensures) (truth_below w c.compared-told.result (subst (λ k. 0 < k) (sym c.requires.ready.into_width) (c.if-is_one_word.ensures.0 refl).0))
 
 number : (c : goal.After-put_word) → c.digit.result ≡ output (digits_in c.args.nets.now) c.args.cell.now
 number c =
@@ -19,15 +20,17 @@ number c =
     let i = cell_inputs digits cell in
     let flag = cell.a_signed && cell.b_signed in
     let signed = c.are_signed.result in
-    let w = c.width-width.result in
-    let a : c.in-Some.a ≡ i.a = c.in-Some.ensures ∙ ap (sig_value digits) c.as_slice.ensures in
-    let b : c.in-Some-whole_value.b ≡ i.b = c.in-Some-whole_value.ensures ∙ ap (sig_value digits) c.as_slice-in-Some.ensures in
-    let some : 0 < cell.width = (c.if-is_one_word-2.ensures.0 refl).0 in
+    let w = c.in-Some.a.width in
+    let x = c.in-Some.a.number in
+    let y = c.in-Some-whole_word.b in
+    let a : bit_value w x ≡ i.a = ap (λ k. bit_value k x) c.in-Some.ensures.width_is ∙ ap (bit_value _) c.in-Some.ensures.number_is ∙ ap (sig_value digits) c.as_slice.ensures in
+    let b : bit_value w y ≡ i.b = c.in-Some-whole_word.ensures.value ∙ ap (sig_value digits) c.as_slice-in-Some.ensures in
+    let some : 0 < cell.width = (c.if-is_one_word.ensures.0 refl).0 in
     c.digit.ensures ∙ sym (truth_digits cell.width c.compared-told.result some)
     ∙ ap (modulo cell.width) (sym (c.compared-told.ensures i
-    (value_operand flag signed w c.only_word.result c.in-Some.a i.a a c.are_signed.ensures c.width-width.ensures.value c.only_word.ensures.value)
-    (value_operand flag signed w c.only_word-then-is_one_word-2.result c.in-Some-whole_value.b i.b b c.are_signed.ensures (sym c.if-width.true ∙ c.width.ensures.value) c.only_word-then-is_one_word-2.ensures.value)))
+    (value_operand flag signed w x (bit_value w x) i.a a c.are_signed.ensures refl refl)
+    (value_operand flag signed w y (bit_value w y) i.b b c.are_signed.ensures refl refl)))
     ∙ ap (λ o. modulo cell.width (formula o i)) (sym c.requires.op)
 
-pub returns-then-is_one_word-2 : goal.returns-then-is_one_word-2
-returns-then-is_one_word-2 c = same_put _ _ _ _ _ _ (number c) c.put_word.ensures
+pub returns-then-is_one_word : goal.returns-then-is_one_word
+returns-then-is_one_word c = same_put _ _ _ _ _ _ (number c) c.put_word.ensures

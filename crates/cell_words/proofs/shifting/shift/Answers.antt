@@ -9,21 +9,22 @@ use Rattle.cell_words.specs.Shifts.{is_below_zero, IsPlain}
 use Rattle.cell_words.proofs.Sources.{unsigned_amount}
 use Rattle.cell_words.proofs.shifting.shift.Goals as goal
 
-plain : (c : goal.After-put_word) → IsPlain (record (cell_inputs (digits_in c.args.nets.now) c.args.cell.now) { b_signed = false }) c.word_of_value-a.result.number c.word_of_value-b.result.number
+plain : (c : goal.After-put_word) → IsPlain (record (cell_inputs (digits_in c.args.nets.now) c.args.cell.now) { b_signed = false }) c.in-Some.a.number c.in-Some-one_word.b.number
 plain c =
     let cell = c.args.cell.now in
-    let digits = digits_in c.args.nets.now in
-    let i = cell_inputs digits cell in
-    let aw = c.word_of_value-a.result.width in
-    let an = c.word_of_value-a.result.number in
-    let a : IsWordOf c.args.nets.now cell.a aw an = c.word_of_value-a.ensures.word c.args.nets.now cell.a (c.in-Some.ensures ∙ ap (sig_value digits) c.as_slice.ensures) in
-    let b : IsWordOf c.args.nets.now cell.b c.word_of_value-b.result.width c.word_of_value-b.result.number = c.word_of_value-b.ensures.word c.args.nets.now cell.b (c.in-Some-whole_value.ensures ∙ ap (sig_value digits) c.as_slice-in-Some.ensures) in
+    let aw = c.in-Some.a.width in
+    let an = c.in-Some.a.number in
+    let bw = c.in-Some-one_word.b.width in
+    let bn = c.in-Some-one_word.b.number in
+    let a : IsWordOf c.args.nets.now cell.a aw an = subst (λ sig. IsWordOf c.args.nets.now sig aw an) c.as_slice.ensures c.in-Some.ensures in
+    let b : IsWordOf c.args.nets.now cell.b bw bn = subst (λ sig. IsWordOf c.args.nets.now sig bw bn) c.as_slice-in-Some.ensures c.in-Some-one_word.ensures in
+    let i = cell_inputs (digits_in c.args.nets.now) cell in
     let p : 2 ^ aw ≤ 2 ^ 64 = pow-le-pow_right {n = 2} (lit< tt) {i = aw} {j = 64} a.small in
     record {
       number_is = sym a.number_is;
       below = subst (λ n. n < 2 ^ i.a.width) a.number_is (subst (λ w. an < 2 ^ w) a.width_is a.below);
       word = omega (arith, a.below, p);
-      positive = ap (λ w. is_below_zero cell.a_signed w i.a.number) (sym a.width_is) ∙ ap (is_below_zero cell.a_signed aw) (sym a.number_is) ∙ sym c.is_negative.ensures ∙ c.if-not-is_negative.true;
+      positive = ap (λ w. is_below_zero cell.a_signed w i.a.number) (sym a.width_is) ∙ ap (is_below_zero cell.a_signed aw) (sym a.number_is) ∙ sym c.is_below_zero.ensures ∙ c.if-not-is_below_zero.true;
       by_is = sym b.number_is;
       by_positive = refl;
     }
@@ -33,11 +34,10 @@ number c =
     let cell = c.args.cell.now in
     let i = cell_inputs (digits_in c.args.nets.now) cell in
     let j = record i { b_signed = false } in
-    let wide : cell.width ≡ cell.width = refl in
-    c.low_digits.ensures ∙ ap (λ w. c.shifted_plainly-number.result % 2 ^ w) wide
-    ∙ ap (λ n. n % 2 ^ cell.width) (c.shifted_plainly-number.ensures j (plain c)) ∙ modulo_lower cell.width 64 (formula c.args.op j) (subst (λ w. w ≤ 64) wide (c.if-is_one_word.ensures.0 refl).1)
+    c.low_digits.ensures
+    ∙ ap (λ n. n % 2 ^ cell.width) (c.shifted_plainly-number.ensures j (plain c)) ∙ modulo_lower cell.width 64 (formula c.args.op j) (c.if-is_one_word.ensures.0 refl).1
     ∙ ap (modulo cell.width) (unsigned_amount c.args.op i c.requires.kind)
     ∙ ap (λ o. modulo cell.width (formula o i)) (sym c.requires.op)
 
-pub returns-then-not-is_negative : goal.returns-then-not-is_negative
-returns-then-not-is_negative c = same_put _ _ _ _ _ _ (number c) c.put_word.ensures
+pub returns-then-not-is_below_zero : goal.returns-then-not-is_below_zero
+returns-then-not-is_below_zero c = same_put _ _ _ _ _ _ (number c) c.put_word.ensures
