@@ -62,14 +62,3 @@ pub fn computed_of_ports(cell: &Cell, nets: &Values, into: &mut Values, out: u32
     }
     computed_of_pieces(cell, nets, into, out)
 }
-
-/// Writes the output of a cell whose ports are not whole values. It stands apart so that the ways for whole values
-/// stay short.
-#[inline(never)]
-pub fn computed_of_parts(cell: &Cell, nets: &Values, into: &mut Values, out: u32) -> bool
-    requires kind { is_computed cell.now.op ≡ true }
-    requires ready { IsWideReady nets.now cell.now into.old out }
-    ensures { IsPut out (output (digits_in nets.now) cell.now) into.old into.new result }
-{
-    computed_of_ports(cell, nets, into, out)
-}

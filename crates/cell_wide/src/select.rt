@@ -13,7 +13,7 @@ use crate::values::write_digitwise;
 use crate::words::{Bitwise, Chain, Fill, Inverse, Pair};
 use crate::write::write;
 use circuit::{Cell, Op, Piece};
-use signal_words::{SigReader, one_piece, sig_field, sig_width, sig_word, whole_value, word_of};
+use signal_words::{SigReader, one_piece, sig_field, sig_width, sig_word, whole_value, whole_word, word_of};
 use sim_base::Values;
 
 /// Writes the bits of a signal from its bit `at` on.
@@ -39,10 +39,27 @@ fn copy_whole(sig: &[Piece], nets: &Values, into: &mut Values, out: u32) -> bool
     requires width { sig_width sig.now ≡ width_at into.old out }
     ensures { IsPut out (sig_number (digits_in nets.now) sig.now % 2 ^ (width_at into.old out)) into.old into.new result }
 {
+    let width = into.width(out);
+    if width <= 64 {
+        if let Some(word) = whole_word(sig, nets, width) {
+            return into.put_word(out, word);
+        }
+    }
+    copy_of_words(sig, nets, into, out)
+}
+
+/// Writes a signal of many words that has the width of the value.
+#[inline(never)]
+fn copy_of_words<'a>(sig: &'a [Piece], nets: &'a Values, into: &mut Values, out: u32) -> bool
+    requires there { out < length into.old }
+    requires signal { IsSignalOf nets.now sig.now }
+    requires width { sig_width sig.now ≡ width_at into.old out }
+    ensures { IsPut out (sig_number (digits_in nets.now) sig.now % 2 ^ (width_at into.old out)) into.old into.new result }
+{
     match whole_value(sig, nets) {
         Some(value) => {
             let _ = value.width();
-            write_digitwise(Op::Pos, value.again(), value, into, out)
+            write_digitwise(Op::Pos, &value, &value, into, out)
         }
         None => copy_pieces(sig, nets, into, out),
     }
@@ -84,8 +101,8 @@ fn is_one(sig: &[Piece], nets: &Values) -> bool
     requires narrow { sig_width sig.now ≡ 1 }
     ensures { result ≡ (sig_number (digits_in nets.now) sig.now == 1) }
 {
-    match whole_value(sig, nets) {
-        Some(value) => value.only_word() == 1,
+    match whole_word(sig, nets, 1) {
+        Some(word) => word == 1,
         None => is_one_of_pieces(sig, nets),
     }
 }

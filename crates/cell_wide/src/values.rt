@@ -10,7 +10,7 @@ use sim_base::{BitsView, Values};
 
 /// What a type of cell makes of `n` digits of its two operands. A type that is none of these keeps the first.
 #[inline(always)]
-fn digitwise(op: Op, n: u32, one: u64, other: u64) -> u64
+pub fn digitwise(op: Op, n: u32, one: u64, other: u64) -> u64
     requires small { n ≤ 64 }
     requires one { one < 2 ^ n }
     requires other { other < 2 ^ n }
@@ -98,78 +98,36 @@ fn write_words<'a>(
     true
 }
 
-/// Writes what a type of cell makes of the words of two values, with a loop of its own for each type.
-#[inline(never)]
-fn write_many<'a>(op: Op, left: &'a [u64], right: &'a [u64], into: &mut Values, out: u32) -> bool
-    requires there { out < length into.old }
-    requires left { length left.now ≡ (width_at into.old out + 63) / 64 }
-    requires left_below { number_of_words left.now < 2 ^ width_at into.old out }
-    requires left_fit { AreWords left.now }
-    requires right { length right.now ≡ (width_at into.old out + 63) / 64 }
-    requires right_below { number_of_words right.now < 2 ^ width_at into.old out }
-    requires right_fit { AreWords right.now }
-    ensures { IsPut out (digitwise op (width_at into.old out) (number_of_words left.now) (number_of_words right.now)) into.old into.new result }
-{
-    let width = into.width(out);
-    let (one, other) = (BitsView::of(left, width), BitsView::of(right, width));
-    match op {
-        Op::And => write_words(Op::And, &one, &other, into, out),
-        Op::Or => write_words(Op::Or, &one, &other, into, out),
-        Op::Xor => write_words(Op::Xor, &one, &other, into, out),
-        Op::Xnor => write_words(Op::Xnor, &one, &other, into, out),
-        Op::Not => write_words(Op::Not, &one, &other, into, out),
-        _ => write_words(Op::Pos, &one, &other, into, out),
-    }
-}
-
-/// Writes what a type of cell makes of two values of the output's width, and tells whether that changed it.
+/// Writes what a type of cell makes of two values of the output's width, with a loop of its own for each type, and
+/// tells whether that changed it.
 #[inline(always)]
 pub fn write_digitwise<'a>(
     op: Op,
-    one: BitsView<'a>,
-    other: BitsView<'a>,
+    one: &BitsView<'a>,
+    other: &BitsView<'a>,
     into: &mut Values,
     out: u32,
 ) -> bool
     requires there { out < length into.old }
-    requires one { one.width ≡ width_at into.old out }
-    requires other { other.width ≡ width_at into.old out }
-    ensures { IsPut out (digitwise op (width_at into.old out) one.entry.number other.entry.number) into.old into.new result }
+    requires one { one.now.width ≡ width_at into.old out }
+    requires other { other.now.width ≡ width_at into.old out }
+    ensures { IsPut out (digitwise op (width_at into.old out) one.now.number other.now.number) into.old into.new result }
 {
-    let width = one.width();
-    if width == 0 || width > 64 {
-        let _ = other.width();
-        return write_many(op, one.words(), other.words(), into, out);
+    match op {
+        Op::And => write_words(Op::And, one, other, into, out),
+        Op::Or => write_words(Op::Or, one, other, into, out),
+        Op::Xor => write_words(Op::Xor, one, other, into, out),
+        Op::Xnor => write_words(Op::Xnor, one, other, into, out),
+        Op::Not => write_words(Op::Not, one, other, into, out),
+        _ => write_words(Op::Pos, one, other, into, out),
     }
-    let word = digitwise(op, width, one.only_word(), other.only_word());
-    into.put_word(out, word)
-}
-
-/// Whether the words of two values of one width are the same.
-#[inline(never)]
-fn are_same_words<'a>(left: &'a [u64], right: &'a [u64], width: u32) -> bool
-    requires left { length left.now ≡ (width + 63) / 64 }
-    requires left_below { number_of_words left.now < 2 ^ width }
-    requires left_fit { AreWords left.now }
-    requires right { length right.now ≡ (width + 63) / 64 }
-    requires right_below { number_of_words right.now < 2 ^ width }
-    requires right_fit { AreWords right.now }
-    ensures { result ≡ (number_of_words left.now == number_of_words right.now) }
-{
-    let (one, other) = (BitsView::of(left, width), BitsView::of(right, width));
-    is_written(Op::Pos, &other, &other, &one)
 }
 
 /// Whether two values of one width are the same.
 #[inline(always)]
-pub fn are_same(one: BitsView, other: BitsView) -> bool
-    requires { one.width ≡ other.width }
-    ensures { result ≡ (one.entry.number == other.entry.number) }
+pub fn are_same(one: &BitsView, other: &BitsView) -> bool
+    requires { one.now.width ≡ other.now.width }
+    ensures { result ≡ (one.now.number == other.now.number) }
 {
-    let width = one.width();
-    if width == 0 || width > 64 {
-        let _ = other.width();
-        return are_same_words(one.words(), other.words(), width);
-    }
-    one.only_word() == other.only_word()
+    is_written(Op::Pos, other, other, one)
 }

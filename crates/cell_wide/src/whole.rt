@@ -5,11 +5,11 @@ ghost use Rattle.signal_words.specs.Values.{digits_in};
 ghost use Rattle.cell_wide.specs.Kinds.{IsWideReady, is_bitwise, is_equality, is_unary};
 ghost use Rattle.sim_base.specs.Values.{IsPut, width_at};
 
-use crate::computed::computed_of_parts;
+use crate::computed::computed_of_ports;
 use crate::truth::put_truth;
-use crate::values::{are_same, write_digitwise};
+use crate::values::{are_same, digitwise, write_digitwise};
 use circuit::{Cell, Op};
-use signal_words::whole_value;
+use signal_words::{one_word, whole_value, whole_word};
 use sim_base::Values;
 
 /// `$not` and `$pos`.
@@ -19,12 +19,28 @@ pub fn unary_values(cell: &Cell, nets: &Values, into: &mut Values, out: u32) -> 
     requires ready { IsWideReady nets.now cell.now into.old out }
     ensures { IsPut out (output (digits_in nets.now) cell.now) into.old into.new result }
 {
-    if let Some(a) = whole_value(cell.a.as_slice(), nets) {
-        if a.width() == cell.width {
-            return write_digitwise(cell.op, a.again(), a, into, out);
+    let width = cell.width;
+    if width <= 64 {
+        if let Some(a) = whole_word(cell.a.as_slice(), nets, width) {
+            return into.put_word(out, digitwise(cell.op, width, a, a));
         }
     }
-    computed_of_parts(cell, nets, into, out)
+    unary_of_words(cell, nets, into, out)
+}
+
+/// `$not` and `$pos` of a value of many words.
+#[inline(never)]
+fn unary_of_words<'a>(cell: &'a Cell, nets: &'a Values, into: &mut Values, out: u32) -> bool
+    requires kind { is_unary cell.now.op ≡ true }
+    requires ready { IsWideReady nets.now cell.now into.old out }
+    ensures { IsPut out (output (digits_in nets.now) cell.now) into.old into.new result }
+{
+    if let Some(a) = whole_value(cell.a.as_slice(), nets) {
+        if a.width() == cell.width {
+            return write_digitwise(cell.op, &a, &a, into, out);
+        }
+    }
+    computed_of_ports(cell, nets, into, out)
 }
 
 /// `$and`, `$or`, `$xor` and `$xnor`.
@@ -34,15 +50,33 @@ pub fn bitwise_values(cell: &Cell, nets: &Values, into: &mut Values, out: u32) -
     requires ready { IsWideReady nets.now cell.now into.old out }
     ensures { IsPut out (output (digits_in nets.now) cell.now) into.old into.new result }
 {
+    let width = cell.width;
+    if width <= 64 {
+        if let Some(a) = whole_word(cell.a.as_slice(), nets, width) {
+            if let Some(b) = whole_word(cell.b.as_slice(), nets, width) {
+                return into.put_word(out, digitwise(cell.op, width, a, b));
+            }
+        }
+    }
+    bitwise_of_words(cell, nets, into, out)
+}
+
+/// `$and`, `$or`, `$xor` and `$xnor` of values of many words.
+#[inline(never)]
+fn bitwise_of_words<'a>(cell: &'a Cell, nets: &'a Values, into: &mut Values, out: u32) -> bool
+    requires kind { is_bitwise cell.now.op ≡ true }
+    requires ready { IsWideReady nets.now cell.now into.old out }
+    ensures { IsPut out (output (digits_in nets.now) cell.now) into.old into.new result }
+{
     if let Some(a) = whole_value(cell.a.as_slice(), nets) {
         if let Some(b) = whole_value(cell.b.as_slice(), nets) {
             let width = cell.width;
             if a.width() == width && b.width() == width {
-                return write_digitwise(cell.op, a, b, into, out);
+                return write_digitwise(cell.op, &a, &b, into, out);
             }
         }
     }
-    computed_of_parts(cell, nets, into, out)
+    computed_of_ports(cell, nets, into, out)
 }
 
 /// Whether a cell that compares for equality tells equal operands, or those that differ.
@@ -64,12 +98,27 @@ pub fn equality_of_values(cell: &Cell, nets: &Values, into: &mut Values, out: u3
     requires ready { IsWideReady nets.now cell.now into.old out }
     ensures { IsPut out (output (digits_in nets.now) cell.now) into.old into.new result }
 {
+    if let Some(a) = one_word(cell.a.as_slice(), nets) {
+        if let Some(b) = whole_word(cell.b.as_slice(), nets, a.width) {
+            return put_truth(into, out, is_told(cell.op, a.number == b));
+        }
+    }
+    equality_of_words(cell, nets, into, out)
+}
+
+/// `$eq`, `$ne`, `$eqx` and `$nex` of values of many words.
+#[inline(never)]
+fn equality_of_words<'a>(cell: &'a Cell, nets: &'a Values, into: &mut Values, out: u32) -> bool
+    requires kind { is_equality cell.now.op ≡ true }
+    requires ready { IsWideReady nets.now cell.now into.old out }
+    ensures { IsPut out (output (digits_in nets.now) cell.now) into.old into.new result }
+{
     if let Some(a) = whole_value(cell.a.as_slice(), nets) {
         if let Some(b) = whole_value(cell.b.as_slice(), nets) {
             if a.width() == b.width() {
-                return put_truth(into, out, is_told(cell.op, are_same(a, b)));
+                return put_truth(into, out, is_told(cell.op, are_same(&a, &b)));
             }
         }
     }
-    computed_of_parts(cell, nets, into, out)
+    computed_of_ports(cell, nets, into, out)
 }

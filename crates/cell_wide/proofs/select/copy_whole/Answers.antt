@@ -9,9 +9,8 @@ use Rattle.cell_wide.proofs.select.copy_whole.Goals as goal
 
 pub returns-in-Some : goal.returns-in-Some
 returns-in-Some c =
-    let w = (width_at c.args.into.now c.args.out) in
-    let value = c.in-Some.value in
-    let number : value.number ≡ sig_number (digits_in c.args.nets.now) c.args.sig.now = ap (λ (v : BitValue). v.number) c.in-Some.ensures in
-    let width : value.width ≡ w = ap (λ (v : BitValue). v.width) c.in-Some.ensures ∙ c.requires.width in
-    let lt : value.number < 2 ^ w = subst (λ k. value.number < 2 ^ k) width c.width.ensures.below in
-    same_put c.args.out c.again.result.number (sig_number (digits_in c.args.nets.now) c.args.sig.now % 2 ^ w) c.args.into.now c.write_digitwise.new.into c.write_digitwise.result (ap (λ (v : BitValue). v.number) c.again.ensures ∙ sym (mod-eq_of_lt lt) ∙ ap (λ n. n % 2 ^ w) number) c.write_digitwise.ensures
+    let w = width_at c.args.into.now c.args.out in
+    let word = c.in-Some.word in
+    let number : word ≡ sig_number (digits_in c.args.nets.now) c.args.sig.now = ap (λ (v : BitValue). v.number) c.in-Some.ensures.value in
+    let lt : word < 2 ^ w = subst (λ k. word < 2 ^ k) c.width-width.ensures.value c.in-Some.ensures.below in
+    same_put c.args.out word (sig_number (digits_in c.args.nets.now) c.args.sig.now % 2 ^ w) c.args.into.now c.put_word.new.self c.put_word.result (sym (mod-eq_of_lt lt) ∙ ap (λ n. n % 2 ^ w) number) c.put_word.ensures

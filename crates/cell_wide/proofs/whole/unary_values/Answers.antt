@@ -1,20 +1,18 @@
-use Rattle.std.proofs.Common.{◌≡◌, ◌∙◌, ap, sym, refl}
-use Rattle.sim_base.specs.BitValue.{BitValue}
+use Rattle.std.proofs.Common.{◌≡◌, ◌∙◌, sym, refl}
+use Rattle.sim_base.specs.BitValue.{bit_value}
 use Rattle.circuit.specs.Output.{output}
-use Rattle.sim_base.specs.Values.{width_at}
 use Rattle.signal_words.specs.Values.{digits_in}
 use Rattle.signal_words.proofs.Told.{same_put}
-use Rattle.cell_wide.specs.Words.{digitwise}
 use Rattle.cell_wide.proofs.Wholes.{unary_digits, whole_operand}
 use Rattle.cell_wide.proofs.whole.unary_values.Goals as goal
 
-pub returns-then-width-cell : goal.returns-then-width-cell
-returns-then-width-cell c =
+pub returns-in-Some : goal.returns-in-Some
+returns-in-Some c =
     let digits = digits_in c.args.nets.now in
     let cell = c.args.cell.now in
+    let w = cell.width in
     let a = c.in-Some.a in
-    let into = c.args.into.now in
-    let width : a.width ≡ (width_at into c.args.out) = sym c.width.ensures.value ∙ c.if-width-cell.true ∙ sym c.requires.ready.into_width in
-    same_put c.args.out _ (output digits cell) into c.write_digitwise.new.into c.write_digitwise.result
-    (ap (λ (v : BitValue). digitwise cell.op (width_at into c.args.out) v.number a.number) c.again.ensures ∙ unary_digits digits cell cell.op (width_at into c.args.out) a.number a.number refl c.requires.kind c.requires.ready.into_width (whole_operand digits cell.a_signed c.as_slice.result.now cell.a a (width_at into c.args.out) c.in-Some.ensures c.width.ensures.below width c.as_slice.ensures))
-    c.write_digitwise.ensures
+    same_put c.args.out _ (output digits cell) c.args.into.now c.put_word.new.self c.put_word.result
+    (c.digitwise.ensures.value ∙ unary_digits digits cell cell.op w a a refl c.requires.kind refl
+    (whole_operand digits cell.a_signed c.as_slice.result.now cell.a (bit_value w a) w c.in-Some.ensures.value c.in-Some.ensures.below refl c.as_slice.ensures))
+    c.put_word.ensures
