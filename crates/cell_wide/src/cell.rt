@@ -7,7 +7,7 @@ ghost use Rattle.signal_words.specs.Stores.{IsCellOf};
 ghost use Rattle.cell_wide.specs.Kinds.{IsWideReady, is_wide};
 ghost use Rattle.sim_base.specs.Values.{IsPut, width_at};
 
-use crate::computed::computed_of_ports;
+use crate::computed::truth_of_values;
 use crate::select::{mux, selection};
 use crate::whole::{bitwise_values, equality_of_values, unary_values};
 use circuit::{Cell, Op, Store};
@@ -28,7 +28,7 @@ fn written(cell: &Cell, nets: &Values, into: &mut Values, out: u32) -> bool
         Op::Not | Op::Pos => unary_values(cell, nets, into, out),
         Op::And | Op::Or | Op::Xor | Op::Xnor => bitwise_values(cell, nets, into, out),
         Op::Eq | Op::Ne | Op::Eqx | Op::Nex => equality_of_values(cell, nets, into, out),
-        _ => computed_of_ports(cell, nets, into, out),
+        _ => truth_of_values(cell, nets, into, out),
     }
 }
 

@@ -3,12 +3,12 @@ ghost use Rattle.std.specs.Prelude.{◌≡◌, true, IfSome};
 ghost use Rattle.circuit.specs.Output.{output};
 ghost use Rattle.signal_words.specs.Values.{digits_in, IsWordOf};
 ghost use Rattle.sim_base.specs.Values.{IsPut, width_at};
-ghost use Rattle.cell_wide.specs.Kinds.{IsWideReady, is_computed};
+ghost use Rattle.cell_wide.specs.Kinds.{IsWideReady, is_computed, is_truth};
 
 use crate::bitwise::{bitwise, unary};
 use crate::truth::truth;
 use circuit::{Cell, Op};
-use signal_words::{SigWord, one_word, word_of};
+use signal_words::{SigWord, one_word, word_of, word_of_whole};
 use sim_base::Values;
 
 /// Writes the output of a cell that does not select, and tells whether that changed it. `a` and `b` are the
@@ -35,8 +35,7 @@ fn computed(
     }
 }
 
-/// Writes the output of a cell whose ports have any pieces. It stands apart so that the way for ports of one piece
-/// stays short.
+/// Writes the output of a cell whose ports have any pieces.
 #[inline(never)]
 fn computed_of_pieces(cell: &Cell, nets: &Values, into: &mut Values, out: u32) -> bool
     requires kind { is_computed cell.now.op ≡ true }
@@ -48,9 +47,10 @@ fn computed_of_pieces(cell: &Cell, nets: &Values, into: &mut Values, out: u32) -
     computed(cell, nets, a, b, into, out)
 }
 
-/// Writes the output of a cell that does not select, without a loop where each port is one piece of at most 64 bits.
-#[inline(always)]
-pub fn computed_of_ports(cell: &Cell, nets: &Values, into: &mut Values, out: u32) -> bool
+/// Writes the output of a cell that does not select, without a loop where each port is one piece of at most 64 bits. It
+/// stands apart so that the ways for whole values stay short.
+#[inline(never)]
+pub fn computed_of_parts(cell: &Cell, nets: &Values, into: &mut Values, out: u32) -> bool
     requires kind { is_computed cell.now.op ≡ true }
     requires ready { IsWideReady nets.now cell.now into.old out }
     ensures { IsPut out (output (digits_in nets.now) cell.now) into.old into.new result }
@@ -61,4 +61,20 @@ pub fn computed_of_ports(cell: &Cell, nets: &Values, into: &mut Values, out: u32
         }
     }
     computed_of_pieces(cell, nets, into, out)
+}
+
+/// Writes the output of a cell that gives a truth value and compares no operands, at once where each port is a whole
+/// value of at most 64 bits.
+#[inline(always)]
+pub fn truth_of_values(cell: &Cell, nets: &Values, into: &mut Values, out: u32) -> bool
+    requires kind { is_truth cell.now.op ≡ true }
+    requires ready { IsWideReady nets.now cell.now into.old out }
+    ensures { IsPut out (output (digits_in nets.now) cell.now) into.old into.new result }
+{
+    if let Some(a) = word_of_whole(cell.a.as_slice(), nets) {
+        if let Some(b) = word_of_whole(cell.b.as_slice(), nets) {
+            return truth(cell, nets, Some(a), Some(b), into, out);
+        }
+    }
+    computed_of_parts(cell, nets, into, out)
 }

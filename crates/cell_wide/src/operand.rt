@@ -8,7 +8,7 @@ ghost use Rattle.cell_wide.specs.Words.{low_of_operand};
 use crate::words::{Chain, Fill, Words};
 use crate::write::same;
 use circuit::Piece;
-use signal_words::{SigReader, sig_bit, sig_width, sig_word};
+use signal_words::{SigReader, one_piece, sig_bit, sig_width, sig_word};
 use sim_base::Values;
 
 /// A signal, and behind its last bit that bit again where it is signed, or zeros.
@@ -38,6 +38,12 @@ pub fn is_zero(sig: &[Piece], nets: &Values) -> bool
     if width <= 64 {
         return sig_word(sig, nets) == 0;
     }
-    let mut number = SigReader::new(sig, nets);
-    same(&mut number, &mut Fill { ones: false }, width)
+    let mut zeros = Fill { ones: false };
+    match one_piece(sig, nets) {
+        Some(digits) => {
+            let mut digits = digits;
+            same(&mut digits, &mut zeros, width)
+        }
+        None => same(&mut SigReader::new(sig, nets), &mut zeros, width),
+    }
 }

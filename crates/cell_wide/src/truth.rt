@@ -13,7 +13,7 @@ use crate::word::operand_word;
 use crate::words::{Chain, Fill};
 use crate::write::{same, write};
 use circuit::{Cell, Op, Piece};
-use signal_words::{SigReader, SigWord, are_signed, ones_word, sig_width};
+use signal_words::{SigReader, SigWord, are_signed, one_piece, ones_word, sig_width};
 use sim_base::Values;
 
 /// Whether all bits of a signal are 1.
@@ -36,8 +36,14 @@ fn are_ones_wide(sig: &[Piece], nets: &Values) -> bool
     ensures { result ≡ (sig_number (digits_in nets.now) sig.now == 2 ^ sig_width sig.now - 1) }
 {
     let width = sig_width(sig);
-    let mut number = SigReader::new(sig, nets);
-    same(&mut number, &mut Fill { ones: true }, width)
+    let mut ones = Fill { ones: true };
+    match one_piece(sig, nets) {
+        Some(digits) => {
+            let mut digits = digits;
+            same(&mut digits, &mut ones, width)
+        }
+        None => same(&mut SigReader::new(sig, nets), &mut ones, width),
+    }
 }
 
 /// Whether the number of a signal is 0.
@@ -73,8 +79,13 @@ fn has_odd_ones_wide(sig: &[Piece], nets: &Values) -> bool
     ensures { result ≡ (ones (sig_width sig.now) (sig_number (digits_in nets.now) sig.now) % 2 == 1) }
 {
     let width = sig_width(sig);
-    let mut number = SigReader::new(sig, nets);
-    is_odd(&mut number, width)
+    match one_piece(sig, nets) {
+        Some(digits) => {
+            let mut digits = digits;
+            is_odd(&mut digits, width)
+        }
+        None => is_odd(&mut SigReader::new(sig, nets), width),
+    }
 }
 
 #[inline(always)]

@@ -5,11 +5,11 @@ ghost use Rattle.signal_words.specs.Values.{digits_in};
 ghost use Rattle.cell_wide.specs.Kinds.{IsWideReady, is_bitwise, is_equality, is_unary};
 ghost use Rattle.sim_base.specs.Values.{IsPut, width_at};
 
-use crate::computed::computed_of_ports;
+use crate::computed::computed_of_parts;
 use crate::truth::put_truth;
 use crate::values::{are_same, digitwise, write_digitwise};
 use circuit::{Cell, Op};
-use signal_words::{one_word, whole_value, whole_word};
+use signal_words::{whole_value, whole_word, word_of_whole};
 use sim_base::Values;
 
 /// `$not` and `$pos`.
@@ -40,7 +40,7 @@ fn unary_of_words<'a>(cell: &'a Cell, nets: &'a Values, into: &mut Values, out: 
             return write_digitwise(cell.op, &a, &a, into, out);
         }
     }
-    computed_of_ports(cell, nets, into, out)
+    computed_of_parts(cell, nets, into, out)
 }
 
 /// `$and`, `$or`, `$xor` and `$xnor`.
@@ -76,7 +76,7 @@ fn bitwise_of_words<'a>(cell: &'a Cell, nets: &'a Values, into: &mut Values, out
             }
         }
     }
-    computed_of_ports(cell, nets, into, out)
+    computed_of_parts(cell, nets, into, out)
 }
 
 /// Whether a cell that compares for equality tells equal operands, or those that differ.
@@ -98,7 +98,7 @@ pub fn equality_of_values(cell: &Cell, nets: &Values, into: &mut Values, out: u3
     requires ready { IsWideReady nets.now cell.now into.old out }
     ensures { IsPut out (output (digits_in nets.now) cell.now) into.old into.new result }
 {
-    if let Some(a) = one_word(cell.a.as_slice(), nets) {
+    if let Some(a) = word_of_whole(cell.a.as_slice(), nets) {
         if let Some(b) = whole_word(cell.b.as_slice(), nets, a.width) {
             return put_truth(into, out, is_told(cell.op, a.number == b));
         }
@@ -120,5 +120,5 @@ fn equality_of_words<'a>(cell: &'a Cell, nets: &'a Values, into: &mut Values, ou
             }
         }
     }
-    computed_of_ports(cell, nets, into, out)
+    computed_of_parts(cell, nets, into, out)
 }

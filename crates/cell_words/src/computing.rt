@@ -11,7 +11,7 @@ use crate::port::port_of;
 use crate::values::{combined, compared, digit};
 use crate::write::{put_low, put_low_word};
 use circuit::{Cell, Op};
-use signal_words::{are_signed, is_one_word, one_word, whole_word};
+use signal_words::{are_signed, is_one_word, one_word, whole_word, word_of_whole};
 use sim_base::{Values, low_digits};
 
 /// Arithmetic and comparisons of ports of any pieces. It stands apart so that the way for ports of one piece stays
@@ -78,7 +78,7 @@ pub fn combination(op: Op, cell: &Cell, nets: &Values, into: &mut Values, out: u
     arithmetic_of_parts(cell, nets, into, out)
 }
 
-/// `$lt`, `$le`, `$ge` and `$gt`, and in one word where the ports have one width and the second is a whole value.
+/// `$lt`, `$le`, `$ge` and `$gt`, and in one word where the ports are whole values of one width.
 #[inline(always)]
 pub fn comparison(op: Op, cell: &Cell, nets: &Values, into: &mut Values, out: u32) -> bool
     requires kind { is_comparison op ≡ true }
@@ -86,7 +86,7 @@ pub fn comparison(op: Op, cell: &Cell, nets: &Values, into: &mut Values, out: u3
     requires ready { IsArithmeticReady nets.now cell.now into.old out }
     ensures { IsPut out (output (digits_in nets.now) cell.now) into.old into.new result }
 {
-    if let Some(a) = one_word(cell.a.as_slice(), nets) {
+    if let Some(a) = word_of_whole(cell.a.as_slice(), nets) {
         if let Some(b) = whole_word(cell.b.as_slice(), nets, a.width) {
             if a.width > 0 && is_one_word(cell.width) {
                 let told = compared(op, are_signed(cell), a.width, a.number, b);

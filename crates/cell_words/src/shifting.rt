@@ -17,7 +17,7 @@ use crate::shift::{moved_word, shift_of, shifted_plainly};
 use crate::source::{Source, fill};
 use crate::write::{put_low, put_low_word};
 use circuit::{Cell, Op};
-use signal_words::{SigWord, is_one_word, one_word, sig_width, word_of};
+use signal_words::{SigWord, is_one_word, one_word, sig_width, word_of, word_of_whole};
 use sim_base::{Values, low_digits};
 
 /// Whether the second operand has a sign, which it has in two types alone.
@@ -109,7 +109,7 @@ fn shifted_parts(cell: &Cell, nets: &Values, into: &mut Values, out: u32) -> boo
     shifted(cell, nets, into, out)
 }
 
-/// A shift, and in one word where each port is one piece of at most 64 bits and the first is not below 0. The type is
+/// A shift, and in one word where each port is a whole value of at most 64 bits and the first is not below 0. The type is
 /// given apart from the cell, so that each has a way of its own.
 #[inline(always)]
 pub fn shift(op: Op, cell: &Cell, nets: &Values, into: &mut Values, out: u32) -> bool
@@ -119,8 +119,8 @@ pub fn shift(op: Op, cell: &Cell, nets: &Values, into: &mut Values, out: u32) ->
     ensures { IsPut out (output (digits_in nets.now) cell.now) into.old into.new result }
 {
     let width = cell.width;
-    if let Some(a) = one_word(cell.a.as_slice(), nets) {
-        if let Some(b) = one_word(cell.b.as_slice(), nets) {
+    if let Some(a) = word_of_whole(cell.a.as_slice(), nets) {
+        if let Some(b) = word_of_whole(cell.b.as_slice(), nets) {
             if is_one_word(width) && !is_word_below_zero(a, cell.a_signed) {
                 let number = shifted_plainly(op, a.number, b.number);
                 return into.put_word(out, low_digits(number, width));

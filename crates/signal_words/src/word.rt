@@ -27,8 +27,44 @@ fn word_of_piece(piece: &Piece, nets: &Values) -> Option<SigWord>
     Some(SigWord { width, number })
 }
 
-/// The width and the number of a signal that is one piece of at most 64 bits, or has no piece. Most signals are, and
-/// they are read without a loop.
+/// The width and the number of a piece that is a whole value of at most 64 bits: a constant, or a net.
+#[inline(always)]
+fn word_of_whole_piece(piece: &Piece, nets: &Values) -> Option<SigWord>
+    requires { IsInside nets.now piece.now }
+    ensures small { IfSome result (λ word. word.width ≤ 64) }
+    ensures width { IfSome result (λ word. word.width ≡ piece_width piece.now) }
+    ensures number { IfSome result (λ word. word.number ≡ piece_number (digits_in nets.now) piece.now) }
+    ensures below { IfSome result (λ word. word.number < 2 ^ word.width) }
+{
+    let width = piece_width(piece);
+    if width > 64 {
+        return None;
+    }
+    match piece_of_width(piece, nets, width) {
+        Some(number) => Some(SigWord { width, number }),
+        None => None,
+    }
+}
+
+/// The width and the number of a signal that is one piece, a whole value of at most 64 bits, or has no piece. Most
+/// signals are, and they are read without a loop and without a shift.
+#[inline(always)]
+pub fn word_of_whole(sig: &[Piece], nets: &Values) -> Option<SigWord>
+    requires { AreInside nets.now sig.now }
+    ensures { IfSome result (λ word. IsWordOf nets.now sig.now word.width word.number) }
+{
+    match sig {
+        [piece] => word_of_whole_piece(piece, nets),
+        [] => Some(SigWord {
+            width: 0,
+            number: 0,
+        }),
+        _ => None,
+    }
+}
+
+/// The width and the number of a signal that is one piece of at most 64 bits, or has no piece. It is read without
+/// a loop.
 #[inline(always)]
 pub fn one_word(sig: &[Piece], nets: &Values) -> Option<SigWord>
     requires { AreInside nets.now sig.now }
