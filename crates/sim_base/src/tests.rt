@@ -112,6 +112,17 @@ fn words_are_read_and_put_in_their_places(rt: HostRuntime) -> Result<(), Fail> {
 }
 
 #[test]
+fn parts_and_words_of_32_bits_are_cut_out_of_a_value(rt: HostRuntime) -> Result<(), Fail> {
+    let bits = every_third(rt.alloc())?;
+    let part = bits.part(rt.alloc(), 61, 70)?;
+    assert_eq!(rt; part.width(), 70);
+    assert!(rt; part.words() == [0x4924_9249_2492_4924, 0x12].as_slice());
+    assert_eq!(rt; bits.view().half(1), 0x9249_2492);
+    assert_eq!(rt; bits.view().half(6), 0x49);
+    Ok(())
+}
+
+#[test]
 fn hexadecimal_texts_are_read_where_the_width_holds_them(rt: HostRuntime) -> Result<(), Fail> {
     let cases: [(u32, &[u8], bool); 15] = [
         (0, b"0", true),
