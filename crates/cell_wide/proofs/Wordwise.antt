@@ -1,5 +1,5 @@
 -- Values of one width, written word by word.
-use Rattle.std.proofs.Common.{◌≡◌, ℕ, ◌+◌, ◌-◌, ◌*◌, ◌/◌, ◌%◌, ◌^◌, ◌<◌, ◌≤◌, List, get_or, take, refl, sym, ◌∙◌, ap, subst, arith, bit_or, bit_xor, lit<, inl, inr}
+use Rattle.std.proofs.Common.{◌≡◌, ℕ, ◌+◌, ◌-◌, ◌*◌, ◌/◌, ◌%◌, ◌^◌, ◌<◌, ◌≤◌, List, get_or, refl, sym, ◌∙◌, ap, subst, arith, bit_or, bit_xor, lit<, inl, inr}
 use Rattle.std.specs.Prelude.{◌==◌, slice_index_or}
 use lib.Bits.{and_lt}
 use lib.Pow.{lt_of_le_ones}
@@ -9,7 +9,6 @@ use Rattle.std.proofs.Math.Nat.{div-eq_of_lt, mod-eq_of_lt, pow-le-pow_right}
 use Rattle.std.proofs.Math.Nat.{sub-le}
 use Rattle.std.proofs.lemmas.Bool.Decides.{eqb_tells}
 use Rattle.std.proofs.lemmas.Nat.{mod-pow-add, shr-shr, shr_split, shr_high, shr_below, mod_low, mod_below, pow_pos, pow-add, same_from_place, and_block, or_block, xor_block, le_or_l, le_or_r, or_lt, xor_lt}
-use Rattle.std.proofs.lemmas.List.{get_or-take}
 use Rattle.std.proofs.lemmas.Nat.Bits.{same_from_bits, same_from_bits_below, bit_at_xor, bit_at-lt, bit_at-zero}
 use Rattle.std.specs.Int.Bits.{or_zero_l}
 use Rattle.sim_base.specs.BitValue.{BitValue, bit_value, number_of_words, AreWords, digit_after_copy}
@@ -30,10 +29,6 @@ word_at_place ws number place fit is =
     let r : (64 * place + j) % 64 ≡ j = omega arith in
     sym (bit_at_mod (number / 2 ^ (64 * place)) 64 j low ∙ bit_at_shr number (64 * place) j ∙ ap (λ n. bit_at n (64 * place + j)) (sym is) ∙ bit_words ws (64 * place + j) fit
     ∙ ap (λ k. bit_at (get_or ws k 0) ((64 * place + j) % 64)) q ∙ ap (bit_at (get_or ws place 0)) r))
-
--- the same in a list that is cut
-pub word_at_part : (ws : List ℕ) (number place whole : ℕ) → place < whole → AreWords ws → number_of_words ws ≡ number → slice_index_or (take whole ws) place 0 ≡ number / 2 ^ (64 * place) % 2 ^ 64
-word_at_part ws number place whole lt fit is = get_or-take whole ws place 0 lt ∙ word_at_place ws number place fit is
 
 -- ---- digits that differ
 

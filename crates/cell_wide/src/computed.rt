@@ -8,7 +8,7 @@ ghost use Rattle.cell_wide.specs.Kinds.{IsWideReady, is_computed, is_truth};
 use crate::bitwise::{bitwise, unary};
 use crate::truth::truth;
 use circuit::{Cell, Op};
-use signal_words::{SigWord, one_word, word_of, word_of_whole};
+use signal_words::{SigWord, one_word, whole_sig_word, word_of, word_of_whole};
 use sim_base::Values;
 
 /// Writes the output of a cell that does not select, and tells whether that changed it. `a` and `b` are the
@@ -71,7 +71,7 @@ pub fn truth_of_values(cell: &Cell, nets: &Values, into: &mut Values, out: u32) 
     requires ready { IsWideReady nets.now cell.now into.old out }
     ensures { IsPut out (output (digits_in nets.now) cell.now) into.old into.new result }
 {
-    if let Some(a) = word_of_whole(cell.a.as_slice(), nets) {
+    if let Some(a) = whole_sig_word(cell.a.as_slice(), nets) {
         if let Some(b) = word_of_whole(cell.b.as_slice(), nets) {
             return truth(cell, nets, Some(a), Some(b), into, out);
         }

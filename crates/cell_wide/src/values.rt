@@ -1,6 +1,5 @@
 //! Values of one width, digit by digit.
-ghost use Rattle.std.specs.Prelude.{◌≡◌, ◌==◌, ◌<◌, ◌≤◌, ◌^◌, length, ◌+◌, ◌/◌};
-ghost use Rattle.sim_base.specs.BitValue.{AreWords, bit_value, number_of_words};
+ghost use Rattle.std.specs.Prelude.{◌≡◌, ◌==◌, ◌<◌, ◌≤◌, ◌^◌, length};
 ghost use Rattle.sim_base.specs.Values.{IsPut, width_at, with_number};
 ghost use Rattle.cell_wide.specs.Words.{digitwise};
 
@@ -38,13 +37,10 @@ fn is_written<'a>(op: Op, one: &BitsView<'a>, other: &BitsView<'a>, value: &Bits
     let width = value.width();
     let whole = (width / 64) as usize;
     let (left, right, old) = (one.words(), other.words(), value.words());
-    // Cut to one length, so that no place in them is tested in the loop.
-    let (left_whole, right_whole, old_whole) = (&left[..whole], &right[..whole], &old[..whole]);
     let mut changed = 0u64;
     let mut place = 0usize;
     while place < whole {
-        let word = digitwise(op, 64, left_whole[place], right_whole[place]);
-        changed |= old_whole[place] ^ word;
+        changed |= old[place] ^ digitwise(op, 64, left[place], right[place]);
         place += 1;
     }
     let rest = width % 64;

@@ -9,7 +9,7 @@ use crate::computed::computed_of_parts;
 use crate::truth::put_truth;
 use crate::values::{are_same, digitwise, write_digitwise};
 use circuit::{Cell, Op};
-use signal_words::{whole_value, whole_word, word_of_whole};
+use signal_words::{whole_sig_word, whole_value, whole_word};
 use sim_base::Values;
 
 /// `$not` and `$pos`.
@@ -98,7 +98,7 @@ pub fn equality_of_values(cell: &Cell, nets: &Values, into: &mut Values, out: u3
     requires ready { IsWideReady nets.now cell.now into.old out }
     ensures { IsPut out (output (digits_in nets.now) cell.now) into.old into.new result }
 {
-    if let Some(a) = word_of_whole(cell.a.as_slice(), nets) {
+    if let Some(a) = whole_sig_word(cell.a.as_slice(), nets) {
         if let Some(b) = whole_word(cell.b.as_slice(), nets, a.width) {
             return put_truth(into, out, is_told(cell.op, a.number == b));
         }

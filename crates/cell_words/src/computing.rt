@@ -11,7 +11,7 @@ use crate::port::port_of;
 use crate::values::{combined, compared, digit};
 use crate::write::{put_low, put_low_word};
 use circuit::{Cell, Op};
-use signal_words::{are_signed, is_one_word, one_word, whole_word, word_of_whole};
+use signal_words::{are_signed, is_one_word, one_word, whole_sig_word, whole_word};
 use sim_base::{Values, low_digits};
 
 /// Arithmetic and comparisons of ports of any pieces. It stands apart so that the way for ports of one piece stays
@@ -86,7 +86,7 @@ pub fn comparison(op: Op, cell: &Cell, nets: &Values, into: &mut Values, out: u3
     requires ready { IsArithmeticReady nets.now cell.now into.old out }
     ensures { IsPut out (output (digits_in nets.now) cell.now) into.old into.new result }
 {
-    if let Some(a) = word_of_whole(cell.a.as_slice(), nets) {
+    if let Some(a) = whole_sig_word(cell.a.as_slice(), nets) {
         if let Some(b) = whole_word(cell.b.as_slice(), nets, a.width) {
             if a.width > 0 && is_one_word(cell.width) {
                 let told = compared(op, are_signed(cell), a.width, a.number, b);

@@ -1,9 +1,6 @@
 //! Cells that shift, and their outputs.
-ghost use Rattle.std.specs.Prelude.{◌≡◌, List, ◌<◌, ◌≤◌, ◌^◌, true, false};
-ghost use Rattle.sim_base.specs.BitValue.{BitValue};
-ghost use Rattle.circuit.specs.declared.netlist.Piece.{Piece};
+ghost use Rattle.std.specs.Prelude.{◌≡◌, ◌<◌, ◌≤◌, ◌^◌, true};
 ghost use Rattle.circuit.specs.Output.{CellInputs, operand, output};
-ghost use Rattle.circuit.specs.Signal.{sig_value};
 ghost use Rattle.signal_words.specs.Values.{digits_in, IsSignalOf, IsWordOf};
 ghost use Rattle.sim_base.specs.Values.{IsPut, width_at};
 ghost use Rattle.cell_words.specs.Kinds.{is_one_sided, is_shift};
@@ -14,10 +11,10 @@ use crate::amount::{amount_of, is_below_zero};
 use crate::narrow::is_below_zero as is_word_below_zero;
 use crate::port::Port;
 use crate::shift::{moved_word, shift_of, shifted_plainly};
-use crate::source::{Source, fill};
+use crate::source::{MovedDigits, fill};
 use crate::write::{put_low, put_low_word};
 use circuit::{Cell, Op};
-use signal_words::{SigWord, is_one_word, one_word, sig_width, word_of, word_of_whole};
+use signal_words::{SigWord, is_one_word, one_word, sig_width, whole_sig_word, word_of};
 use sim_base::{Values, low_digits};
 
 /// Whether the second operand has a sign, which it has in two types alone.
@@ -42,7 +39,7 @@ fn shifted_words(cell: &Cell, nets: &Values, into: &mut Values, out: u32) -> boo
     let negative = is_below_zero(a, nets, cell.a_signed);
     let amount = amount_of(cell.b.as_slice(), nets, is_amount_signed(cell));
     let shift = shift_of(cell, sig_width(a), negative, amount);
-    let mut source = Source::new(a, nets, shift);
+    let mut source = MovedDigits::new(a, nets, shift);
     fill(into, out, &mut source)
 }
 
@@ -119,8 +116,8 @@ pub fn shift(op: Op, cell: &Cell, nets: &Values, into: &mut Values, out: u32) ->
     ensures { IsPut out (output (digits_in nets.now) cell.now) into.old into.new result }
 {
     let width = cell.width;
-    if let Some(a) = word_of_whole(cell.a.as_slice(), nets) {
-        if let Some(b) = word_of_whole(cell.b.as_slice(), nets) {
+    if let Some(a) = whole_sig_word(cell.a.as_slice(), nets) {
+        if let Some(b) = whole_sig_word(cell.b.as_slice(), nets) {
             if is_one_word(width) && !is_word_below_zero(a, cell.a_signed) {
                 let number = shifted_plainly(op, a.number, b.number);
                 return into.put_word(out, low_digits(number, width));

@@ -86,13 +86,13 @@ impl<'a> Extended<'a> {
 
 /// Digits 0, and behind them those of an extended signal, seen as the number of the digits that are left to be read.
 #[derive(Drop)]
-pub struct Source<'a> {
+pub struct MovedDigits<'a> {
     /// How many digits 0 are left.
     zeros: u32,
     digits: Extended<'a>,
 }
 
-impl<'a> Model for Source<'a> {
+impl<'a> Model for MovedDigits<'a> {
     ghost use Rattle.std.specs.Prelude.{ℕ, ◌*◌, ◌^◌};
 
     ghost Value = { ℕ };
@@ -100,16 +100,16 @@ impl<'a> Model for Source<'a> {
     ghost view = { λ s. s.digits * 2 ^ s.zeros };
 }
 
-impl<'a> Source<'a> {
+impl<'a> MovedDigits<'a> {
     /// A signal that is moved.
-    pub fn new(sig: &'a [Piece], nets: &'a Values, shift: Shift) -> Source<'a>
+    pub fn new(sig: &'a [Piece], nets: &'a Values, shift: Shift) -> MovedDigits<'a>
         requires inside { AreInside nets.now sig.now }
         requires fits { sig_width sig.now < 2 ^ 32 }
         ensures { result ≡ moved shift (sig_value (digits_in nets.now) sig.now) }
     {
         let mut digits = Extended::new(sig, nets, shift.ones);
         digits.skip(shift.right);
-        Source {
+        MovedDigits {
             zeros: shift.left,
             digits,
         }
@@ -132,7 +132,7 @@ impl<'a> Source<'a> {
 }
 
 /// Makes the value's number that of the digits, as far as it has bits, and answers whether that changed it.
-pub fn fill(into: &mut Values, out: u32, source: &mut Source) -> bool
+pub fn fill(into: &mut Values, out: u32, source: &mut MovedDigits) -> bool
     requires { out < length into.old }
     ensures { IsPut out (source.old % 2 ^ (width_at into.old out)) into.old into.new result }
 {

@@ -1,5 +1,5 @@
 //! Words of values of 1 to 64 bits.
-ghost use Rattle.std.specs.Prelude.{◌≡◌, ℕ, int_lt, ◌%◌, ◌^◌, ◌<◌, ◌≤◌, ◌↔◌, true, IsTrue};
+ghost use Rattle.std.specs.Prelude.{◌≡◌, ℕ, int_lt, ◌%◌, ◌^◌, ◌<◌, ◌≤◌, true};
 ghost use Rattle.sim_base.specs.BitValue.{digit_of};
 ghost use Rattle.circuit.specs.Output.{CellInputs, formula, left, modulo, operand, right, truth};
 ghost use Rattle.cell_words.specs.Kinds.{is_comparison, is_modular};

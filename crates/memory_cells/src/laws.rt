@@ -10,6 +10,7 @@ ghost use Rattle.sim_base.specs.Values.{widths};
 ghost use Rattle.memory_cells.specs.Ports.{IsMemoryOf};
 ghost use Rattle.memory_cells.specs.Rows.{AreRowsOf, start_rows};
 
+use circuit::law_of_parts;
 use signal_words::law_of_stores;
 
 /// Over stores of a valid circuit, each of its memories, the values of its read ports and its rows
@@ -20,5 +21,6 @@ pub fn law_of_memories()
     ensures init { (c : Circuit) (n : ℕ) (m : Mem) → is_valid c ≡ true → slice_get c.mems n ≡ Some m → m.init.width ≡ m.size * m.width }
     ensures start { (m : Mem) → AreRowsOf m (start_rows m) }
 {
+    law_of_parts();
     law_of_stores();
 }

@@ -16,7 +16,6 @@ use Rattle.circuit.specs.declared.cell.Cell.{Cell}
 use Rattle.circuit.specs.declared.register.Reg.{Reg}
 use Rattle.circuit.specs.declared.memory.Mem.{Mem}
 use Rattle.circuit.specs.declared.memory.ReadPort.{ReadPort}
-use Rattle.circuit.specs.declared.diagnostic.Diag.{Diag}
 use Rattle.circuit.specs.declared.store.Store.{Store}
 use Rattle.sim_base.specs.Values.{widths}
 use Rattle.signal_words.specs.Values.{IsInside, AreInside, IsSignalOf}
@@ -87,14 +86,8 @@ parts_of c e =
     let o = and_parts (list_any (λ s. length s.name == 0) c.scopes) _ n.1 in
     record { cells = x.0; regs = r.0; mems = m.0; diags = o.1 }
 
-pub register_of : (c : Circuit) (n : ℕ) (r : Reg) → is_valid c ≡ true → slice_get c.regs n ≡ Some r → register_fits c.nets r ≡ true
-register_of c n r v e = passes_at (register_fits c.nets) c.regs n r (parts_of c v).regs e
-
 pub memory_of : (c : Circuit) (n : ℕ) (m : Mem) → is_valid c ≡ true → slice_get c.mems n ≡ Some m → mem_fits c.nets m ≡ true
 memory_of c n m v e = passes_at (mem_fits c.nets) c.mems n m (parts_of c v).mems e
-
-pub diagnostic_of : (c : Circuit) (n : ℕ) (d : Diag) → is_valid c ≡ true → slice_get c.diags n ≡ Some d → diag_fits c.nets d ≡ true
-diagnostic_of c n d v e = passes_at (diag_fits c.nets) c.diags n d (parts_of c v).diags e
 
 pub cell_of : (c : Circuit) (store : Store) (n : ℕ) (x : Cell) → is_valid c ≡ true → IsStoreOf c store → slice_get c.cells n ≡ Some x → IsCellOf store n x
 cell_of c store n x v s e =

@@ -1,8 +1,7 @@
 -- Signals of one piece, or of none.
-use Rattle.std.proofs.Common.{◌≡◌, ℕ, ◌<◌, ◌≤◌, ◌^◌, List, [], ◌∷◌, length, get_or, refl, sym, ◌∙◌, ap, subst, arith, lit<, Option, Some, None}
-use Rattle.std.proofs.Math.Nat.{pow-le-pow_right}
-use Rattle.std.specs.Prelude.{IfSome, slice_index_or}
-use Rattle.sim_base.specs.BitValue.{BitValue, bit_value, number_of_words}
+use Rattle.std.proofs.Common.{◌≡◌, ℕ, ◌<◌, ◌≤◌, ◌^◌, List, [], ◌∷◌, length, get_or, refl, sym, ◌∙◌, ap, arith, lit<, Option, Some, None}
+use Rattle.std.specs.Prelude.{IfSome}
+use Rattle.sim_base.specs.BitValue.{BitValue, bit_value}
 use Rattle.circuit.specs.Signal.{Digits, piece_number, piece_width, sig_number, sig_value, sig_width}
 use Rattle.circuit.specs.declared.netlist.Piece.{Piece}
 use Rattle.signal_words.specs.Values.{digits_in, IsWordOf}
@@ -48,12 +47,3 @@ pub whole_word_is : (values : List BitValue) (ps : List Piece) (p : Piece) (w : 
 whole_word_is values ps p w None some few e same number = tt
 whole_word_is values ps p w (Some x) some few e same number =
     ap (λ k. bit_value k x) (sym same ∙ one_width ps p some few e) ∙ ap (bit_value (sig_width ps)) (number ∙ one_number (digits_in values) ps p some few e)
-
--- the word of a value that has one
-pub word_is : (values : List BitValue) (ps : List Piece) (v : BitValue) (width number : ℕ) → v ≡ sig_value (digits_in values) ps → width ≡ v.width → number ≡ v.number → v.width ≤ 64 → v.number < 2 ^ v.width → IsWordOf values ps width number
-word_is values ps v width number e w n small below = record {
-  small = omega (arith, w, small);
-  width_is = w ∙ ap (λ (x : BitValue). x.width) e;
-  number_is = n ∙ ap (λ (x : BitValue). x.number) e;
-  below = subst (λ k. number < 2 ^ k) (sym w) (subst (λ k. k < 2 ^ v.width) (sym n) below);
-}

@@ -15,5 +15,5 @@ pub use reader::SigReader;
 pub use run::{PieceReader, one_piece};
 pub use sign::{are_signed, is_negative};
 pub use signal::{sig_bit, sig_field, sig_width, sig_word};
-pub use values::{SigWord, is_one_word, ones_word, word_of_value};
-pub use word::{one_word, whole_value, whole_word, word_of, word_of_whole};
+pub use values::{SigWord, is_one_word, ones_word};
+pub use word::{one_word, whole_sig_word, whole_value, whole_word, word_of, word_of_whole};

@@ -71,7 +71,9 @@ pub fn piece_of_width(piece: &Piece, nets: &Values, width: u32) -> Option<u64>
     match piece {
         Piece::Const(value) if value.width() == width => Some(value.word()),
         Piece::Part {
-            net, width: part, ..
+            net,
+            width: part,
+            ..
         } if *part == width => nets.word_of_width(*net, width),
         _ => None,
     }

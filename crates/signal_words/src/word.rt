@@ -46,6 +46,18 @@ fn word_of_whole_piece(piece: &Piece, nets: &Values) -> Option<SigWord>
     }
 }
 
+/// The width and the number of a signal that is one piece, a whole value of at most 64 bits.
+#[inline(always)]
+pub fn whole_sig_word(sig: &[Piece], nets: &Values) -> Option<SigWord>
+    requires { AreInside nets.now sig.now }
+    ensures { IfSome result (λ word. IsWordOf nets.now sig.now word.width word.number) }
+{
+    match sig {
+        [piece] => word_of_whole_piece(piece, nets),
+        _ => None,
+    }
+}
+
 /// The width and the number of a signal that is one piece, a whole value of at most 64 bits, or has no piece. Most
 /// signals are, and they are read without a loop and without a shift.
 #[inline(always)]

@@ -1,5 +1,5 @@
 -- Values that are given their numbers one after another.
-use Rattle.std.proofs.Common.{◌≡◌, ℕ, zero, suc, ◌+◌, ◌<◌, List, [], ◌∷◌, length, map, get_or, set, refl, ap, arith}
+use Rattle.std.proofs.Common.{◌≡◌, ℕ, zero, suc, ◌<◌, List, [], ◌∷◌, length, map, get_or, refl, ap, arith}
 use Rattle.sim_base.specs.BitValue.{BitValue, zeros}
 use Rattle.sim_base.specs.Values.{width_at, with_number}
 

@@ -1,7 +1,7 @@
 -- A value that is held among others.
 use Rattle.std.proofs.Common.{◌≡◌, ◌≢◌, ℕ, zero, suc, ◌+◌, ◌-◌, ◌/◌, ◌^◌, ◌<◌, ◌≤◌, List, [], ◌∷◌, ◌++◌, replicate, length, map, take, drop, get_or, set, refl, sym, ◌∙◌, ap, subst, arith, inl, inr, get_or-set_other, get_or-set_same}
 use Rattle.std.proofs.lemmas.Bool.{cases_lt, cases_eq}
-use Rattle.std.proofs.lemmas.List.{get_or-take, get_or-drop, length-take-le, length-drop, length-map, length-set, map-set, get_or_past, get_or_read, get_or_append_left, length-replicate, set-get_or}
+use Rattle.std.proofs.lemmas.List.{get_or-take, get_or-drop, length-take-le, length-drop, length-map, length-set, map-set, get_or_past, get_or_append_left, length-replicate, set-get_or}
 use Rattle.std.proofs.lemmas.Nat.{pow_pos}
 use Rattle.std.proofs.Math.Seq.{get_or-append_seam}
 use Rattle.sim_base.specs.BitValue.{BitValue, bit_value, zeros, number_of_words, AreWords}

@@ -27,28 +27,6 @@ impl<'a> Model for BitsView<'a> {
 }
 
 impl<'a> BitsView<'a> {
-    /// The value of this width that words stand for, the least first.
-    #[inline(always)]
-    pub fn of(words: &'a [u64], width: u32) -> BitsView<'a>
-        requires length { length words.now ≡ (width + 63) / 64 }
-        requires below { number_of_words words.now < 2 ^ width }
-        requires fit { AreWords words.now }
-        ensures { result ≡ bit_value width (number_of_words words.now) }
-    {
-        BitsView { words, width }
-    }
-
-    /// The same value once more.
-    #[inline(always)]
-    pub fn again(&self) -> BitsView<'a>
-        ensures { result ≡ self.now }
-    {
-        BitsView {
-            words: self.words,
-            width: self.width,
-        }
-    }
-
     /// The width in bits.
     #[inline(always)]
     pub fn width(&self) -> u32
@@ -67,18 +45,6 @@ impl<'a> BitsView<'a> {
         ensures below { result < 2 ^ self.now.width }
     {
         if self.width == 0 { 0 } else { self.words[0] }
-    }
-
-    /// The number of a value of 1 to 64 bits. It has one word, which is read without a test.
-    #[inline(always)]
-    pub fn only_word(&self) -> u64
-        requires some { 0 < self.now.width }
-        requires small { self.now.width ≤ 64 }
-        ensures value { result ≡ self.now.number }
-        ensures below { result < 2 ^ self.now.width }
-    {
-        let _ = &self.width;
-        self.words[0]
     }
 
     /// The number in words of 64 bits, the least first.

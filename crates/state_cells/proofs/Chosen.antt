@@ -4,7 +4,7 @@ use Rattle.circuit.specs.Next.{RegisterInputs}
 use Rattle.circuit.specs.Valid.{ports_of_kind}
 use Rattle.circuit.specs.declared.register.RegKind.{RegKind}
 use Rattle.circuit.specs.declared.register.RegKind.TheVariants as kind
-use Rattle.state_cells.specs.Sources.{has_source, is_input, number_of}
+use Rattle.state_cells.specs.Sources.{has_source, is_input, sourced_number}
 use Rattle.state_cells.specs.declared.source.Source.{Source}
 use Rattle.state_cells.specs.declared.source.Source.TheVariants as source
 
@@ -26,7 +26,7 @@ no_whole kind.Dlatch h = cc
 no_whole kind.Adlatch h = cc
 no_whole kind.Dlatchsr h = (refl, refl)
 
-pub input_or_own_number : (k : RegKind) (s : Source) (a : RegisterInputs) (own : ℕ) → (ports_of_kind k).bits ≡ true → has_source (ports_of_kind k) s ≡ true → cond (is_input s) a.input own ≡ number_of s a own
+pub input_or_own_number : (k : RegKind) (s : Source) (a : RegisterInputs) (own : ℕ) → (ports_of_kind k).bits ≡ true → has_source (ports_of_kind k) s ≡ true → cond (is_input s) a.input own ≡ sourced_number s a own
 input_or_own_number k source.Own a own bits there = refl
 input_or_own_number k source.Input a own bits there = refl
 input_or_own_number k source.Load a own bits there = let no : (ports_of_kind k).load ≡ false = (no_whole k bits).0 in cc

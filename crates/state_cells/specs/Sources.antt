@@ -6,11 +6,11 @@ use Rattle.state_cells.specs.declared.source.Source.{Source}
 use Rattle.state_cells.specs.declared.source.Source.TheVariants as source
 
 -- the number that is taken, where the register has its own
-abbrev pub number_of : Source → RegisterInputs → ℕ → ℕ
-number_of source.Own a own = own
-number_of source.Input a own = a.input
-number_of source.Load a own = a.load
-number_of source.Value a own = a.value
+abbrev pub sourced_number : Source → RegisterInputs → ℕ → ℕ
+sourced_number source.Own a own = own
+sourced_number source.Input a own = a.input
+sourced_number source.Load a own = a.load
+sourced_number source.Value a own = a.value
 
 -- where a register has ports that set and clear a bit, these come first
 abbrev pub under_bits : Bool → ℕ → RegisterInputs → ℕ → ℕ

@@ -13,6 +13,7 @@ ghost use Rattle.signal_words.specs.Stores.{IsStoreOf};
 ghost use Rattle.state_cells.specs.Diagnostics.{fires_in, IsDiagnosticOf};
 ghost use Rattle.state_cells.specs.Registers.{IsRegisterOf};
 
+use circuit::law_of_parts;
 use signal_words::law_of_stores;
 
 /// Over the rounds of a sample, a diagnostic without a trigger fires where it fires in the last one, and
@@ -28,5 +29,6 @@ pub fn law_of_rounds()
     ensures register { (c : Circuit) (before now : Store) (n : ℕ) (r : Reg) → is_valid c ≡ true → IsStoreOf c before → IsStoreOf c now → slice_get c.regs n ≡ Some r → IsRegisterOf before.nets now.nets r }
     ensures diagnostic { (c : Circuit) (before now : Store) (n : ℕ) (d : Diag) → is_valid c ≡ true → IsStoreOf c before → IsStoreOf c now → slice_get c.diags n ≡ Some d → IsDiagnosticOf before.nets now.nets d }
 {
+    law_of_parts();
     law_of_stores();
 }

@@ -7,7 +7,7 @@ ghost use Rattle.circuit.specs.Signal.{Digits, sig_number, sig_value, sig_width}
 ghost use Rattle.circuit.specs.Valid.{ports_of_kind, widest};
 ghost use Rattle.signal_words.specs.Values.{AreInside, digits_in};
 ghost use Rattle.state_cells.specs.Registers.{HasWidths, IsRegisterOf};
-ghost use Rattle.state_cells.specs.Sources.{has_source, number_of};
+ghost use Rattle.state_cells.specs.Sources.{has_source, sourced_number};
 
 use crate::parts::{active_digits, overlaid};
 use crate::source::{Source, source_of};
@@ -50,7 +50,7 @@ fn put_whole(reg: &Reg, source: Source, nets: &Values, into: &mut Values, out: u
     requires ad { AreInside nets.now reg.now.ad }
     requires there { out < length into.old }
     requires width { width_at into.old out ≡ reg.now.width }
-    ensures { (before : Digits) → IsPut out (number_of source (register_inputs before (digits_in nets.now) reg.now) (number_at into.old out)) into.old into.new result }
+    ensures { (before : Digits) → IsPut out (sourced_number source (register_inputs before (digits_in nets.now) reg.now) (number_at into.old out)) into.old into.new result }
 {
     match source {
         Source::Own => false,

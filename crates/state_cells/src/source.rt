@@ -5,7 +5,7 @@ ghost use Rattle.circuit.specs.Signal.{sig_width};
 ghost use Rattle.circuit.specs.Valid.{Ports, ports_of_kind};
 ghost use Rattle.signal_words.specs.Values.{AreInside, digits_in};
 ghost use Rattle.state_cells.specs.Registers.{IsRegisterOf};
-ghost use Rattle.state_cells.specs.Sources.{has_source, is_input, number_of, under_bits};
+ghost use Rattle.state_cells.specs.Sources.{has_source, is_input, sourced_number, under_bits};
 
 use crate::port::{has_edge, is_active};
 use circuit::{Reg, RegKind};
@@ -70,7 +70,7 @@ fn loaded(reg: &Reg, now: &Values) -> bool
 
 /// The input where this holds.
 fn input_where(holds: bool) -> Source
-    ensures number { (a : RegisterInputs) (own : ℕ) → number_of result a own ≡ (if holds then a.input else own) }
+    ensures number { (a : RegisterInputs) (own : ℕ) → sourced_number result a own ≡ (if holds then a.input else own) }
     ensures there { (ports : Ports) → ports.d ≡ true → has_source ports result ≡ true }
 {
     if holds { Source::Input } else { Source::Own }
@@ -78,7 +78,7 @@ fn input_where(holds: bool) -> Source
 
 /// The value of the reset where that is active, and else another source.
 fn reset_or(active: bool, other: Source) -> Source
-    ensures number { (a : RegisterInputs) (own : ℕ) → number_of result a own ≡ (if active then a.value else number_of other a own) }
+    ensures number { (a : RegisterInputs) (own : ℕ) → sourced_number result a own ≡ (if active then a.value else sourced_number other a own) }
     ensures there { (ports : Ports) → ports.reset ≡ true → has_source ports other ≡ true → has_source ports result ≡ true }
 {
     if active { Source::Value } else { other }
@@ -86,7 +86,7 @@ fn reset_or(active: bool, other: Source) -> Source
 
 /// The load where it is active, and else another source.
 fn load_or(active: bool, other: Source) -> Source
-    ensures number { (a : RegisterInputs) (own : ℕ) → number_of result a own ≡ (if active then a.load else number_of other a own) }
+    ensures number { (a : RegisterInputs) (own : ℕ) → sourced_number result a own ≡ (if active then a.load else sourced_number other a own) }
     ensures there { (ports : Ports) → ports.load ≡ true → has_source ports other ≡ true → has_source ports result ≡ true }
 {
     if active { Source::Load } else { other }
@@ -97,7 +97,7 @@ pub(crate) fn source_of(reg: &Reg, before: &Values, now: &Values) -> Source
     requires { IsRegisterOf before.now now.now reg.now }
     ensures there { has_source (ports_of_kind reg.now.kind) result ≡ true }
     ensures number { (own : ℕ) → let a = register_inputs (digits_in before.now) (digits_in now.now) reg.now in
-        under_bits (ports_of_kind reg.now.kind).bits reg.now.width a (number_of result a own) ≡ next_number (digits_in before.now) (digits_in now.now) reg.now own }
+        under_bits (ports_of_kind reg.now.kind).bits reg.now.width a (sourced_number result a own) ≡ next_number (digits_in before.now) (digits_in now.now) reg.now own }
 {
     match reg.kind {
         RegKind::Dff | RegKind::Dffsr => input_where(edge(reg, before, now)),

@@ -1,9 +1,8 @@
-use Rattle.std.proofs.Common.{◌≡◌, ◌+◌, ◌-◌, ◌*◌, ◌/◌, ◌%◌, ◌^◌, ◌<◌, ◌≤◌, ◌||◌, false, ℕ, List, min, ap, sym, ◌∙◌, subst, arith, lit<}
+use Rattle.std.proofs.Common.{◌≡◌, ◌+◌, ◌-◌, ◌*◌, ◌/◌, ◌%◌, ◌^◌, ◌<◌, ◌≤◌, ◌||◌, false, ℕ, ap, sym, ◌∙◌, subst, arith, lit<}
 use Rattle.std.proofs.Math.Nat.{pow-le-pow_right}
-use Rattle.sim_base.specs.BitValue.{BitValue}
 use Rattle.sim_base.specs.Values.{width_at, with_number}
 use Rattle.sim_base.proofs.Written.{IsCopied}
-use Rattle.sim_base.proofs.Filling.{IsFilling, filling_all, filling_below, filling_more, filling_none, filling_there, filling_width}
+use Rattle.sim_base.proofs.Filling.{IsFilling, filling_all, filling_more, filling_none, filling_there, filling_width}
 use Rattle.cell_wide.specs.Words.{digitwise}
 use Rattle.cell_wide.proofs.Wordwise.{word_at_place, digitwise_below, whole_word, last_word, rest_below}
 use Rattle.cell_wide.proofs.values.put_words.Goals as goal

@@ -1,6 +1,5 @@
-use Rattle.std.proofs.Common.{◌≡◌, ◌∙◌, ap, sym}
+use Rattle.std.proofs.Common.{◌∙◌, ap, sym}
 use Rattle.sim_base.specs.BitValue.{BitValue}
-use Rattle.sim_base.specs.Values.{number_at, width_at}
 use Rattle.sim_base.proofs.Written.{put_same}
 use Rattle.signal_words.proofs.Told.{eq_from}
 use Rattle.cell_wide.specs.Words.{digitwise}

@@ -1,4 +1,4 @@
-use Rattle.std.proofs.Common.{◌≡◌, ◌∙◌, sym, refl}
+use Rattle.std.proofs.Common.{◌∙◌, refl}
 use Rattle.sim_base.specs.BitValue.{bit_value}
 use Rattle.circuit.specs.Output.{output}
 use Rattle.signal_words.specs.Values.{digits_in}

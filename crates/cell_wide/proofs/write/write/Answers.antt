@@ -1,4 +1,4 @@
-use Rattle.std.proofs.Common.{◌≡◌, ◌+◌, ◌-◌, ◌/◌, ◌%◌, ◌<◌, ◌≤◌, ◌^◌, min, sym, ◌∙◌, ap, subst, arith}
+use Rattle.std.proofs.Common.{◌<◌, ◌^◌, sym, subst}
 use Rattle.sim_base.specs.Values.{IsPut}
 use Rattle.sim_base.proofs.Filling.{filling_all, filling_below, filling_more, filling_none, filling_there}
 use Rattle.cell_wide.proofs.Written.{more_passed, part_written, starts}

@@ -1,4 +1,4 @@
-use Rattle.std.proofs.Common.{◌≡◌, ◌%◌, ◌^◌, ◌≤◌, ◌∙◌, ◌&&◌, ap, refl, sym, subst}
+use Rattle.std.proofs.Common.{◌≡◌, ◌∙◌, ◌&&◌, ap, refl, sym}
 use Rattle.sim_base.specs.BitValue.{bit_value}
 use Rattle.circuit.specs.Output.{formula, cell_inputs, modulo, output}
 use Rattle.circuit.specs.Signal.{sig_value}

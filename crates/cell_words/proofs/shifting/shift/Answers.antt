@@ -1,7 +1,6 @@
 use Rattle.std.proofs.Common.{◌≡◌, ◌%◌, ◌^◌, ◌<◌, ◌≤◌, ◌∙◌, ap, refl, false, sym, subst, arith, lit<}
 use Rattle.std.proofs.Math.Nat.{pow-le-pow_right}
 use Rattle.circuit.specs.Output.{formula, cell_inputs, modulo, output}
-use Rattle.circuit.specs.Signal.{sig_value}
 use Rattle.signal_words.specs.Values.{digits_in, IsWordOf}
 use Rattle.signal_words.proofs.Modulo.{modulo_lower}
 use Rattle.signal_words.proofs.Told.{same_put}
@@ -9,15 +8,15 @@ use Rattle.cell_words.specs.Shifts.{is_below_zero, IsPlain}
 use Rattle.cell_words.proofs.Sources.{unsigned_amount}
 use Rattle.cell_words.proofs.shifting.shift.Goals as goal
 
-plain : (c : goal.After-put_word) → IsPlain (record (cell_inputs (digits_in c.args.nets.now) c.args.cell.now) { b_signed = false }) c.in-Some.a.number c.in-Some-word_of_whole.b.number
+plain : (c : goal.After-put_word) → IsPlain (record (cell_inputs (digits_in c.args.nets.now) c.args.cell.now) { b_signed = false }) c.in-Some.a.number c.in-Some-whole_sig_word.b.number
 plain c =
     let cell = c.args.cell.now in
     let aw = c.in-Some.a.width in
     let an = c.in-Some.a.number in
-    let bw = c.in-Some-word_of_whole.b.width in
-    let bn = c.in-Some-word_of_whole.b.number in
+    let bw = c.in-Some-whole_sig_word.b.width in
+    let bn = c.in-Some-whole_sig_word.b.number in
     let a : IsWordOf c.args.nets.now cell.a aw an = subst (λ sig. IsWordOf c.args.nets.now sig aw an) c.as_slice.ensures c.in-Some.ensures in
-    let b : IsWordOf c.args.nets.now cell.b bw bn = subst (λ sig. IsWordOf c.args.nets.now sig bw bn) c.as_slice-in-Some.ensures c.in-Some-word_of_whole.ensures in
+    let b : IsWordOf c.args.nets.now cell.b bw bn = subst (λ sig. IsWordOf c.args.nets.now sig bw bn) c.as_slice-in-Some.ensures c.in-Some-whole_sig_word.ensures in
     let i = cell_inputs (digits_in c.args.nets.now) cell in
     let p : 2 ^ aw ≤ 2 ^ 64 = pow-le-pow_right {n = 2} (lit< tt) {i = aw} {j = 64} a.small in
     record {

@@ -1,4 +1,4 @@
-use Rattle.std.proofs.Common.{◌≡◌, ◌-◌, ◌/◌, ◌%◌, ◌^◌, ◌<◌, ◌∙◌, min, ap, subst, sym, arith}
+use Rattle.std.proofs.Common.{◌/◌, ◌%◌, ◌^◌, ◌<◌, ◌∙◌, ap, subst, sym, arith}
 use Rattle.std.proofs.lemmas.Nat.{shr-shr, mod_below, pow_pos}
 use Rattle.sim_base.specs.Values.{IsPut}
 use Rattle.sim_base.proofs.Filling.{filling_all, filling_below, filling_more, filling_none, filling_there, word_part}

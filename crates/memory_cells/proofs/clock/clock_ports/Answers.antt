@@ -1,11 +1,9 @@
 use Rattle.std.proofs.Common.{◌≡◌, ℕ, List, Bool, true, false, not, ◌&&◌, ◌||◌, refl, sym, ◌∙◌, ap}
-use Rattle.circuit.specs.Next.{next_reads, next_rows, next_stored}
+use Rattle.circuit.specs.Next.{next_reads, next_rows}
 use Rattle.sim_base.specs.Parts.{parts}
 use Rattle.circuit.specs.State.{Stored}
-use Rattle.sim_base.specs.BitValue.{BitValue}
 use Rattle.sim_base.specs.Values.{numbers}
 use Rattle.signal_words.specs.Values.{digits_in}
-use Rattle.memory_cells.specs.Ports.{stored}
 use Rattle.sim_base.proofs.Parts.{length-parts}
 use Rattle.memory_cells.proofs.Parts.{kept_as}
 use Rattle.memory_cells.proofs.Told.{same_lists}

@@ -1,10 +1,10 @@
-use Rattle.std.proofs.Common.{rules, ◌≡◌, ◌≤◌, ◌+◌, ◌/◌, ◌%◌, ◌^◌, ◌∙◌, cond, ap, sym, subst, arith}
+use Rattle.std.proofs.Common.{rules, ◌≡◌, ◌≤◌, ◌+◌, ◌/◌, ◌%◌, ◌^◌, ◌∙◌, cond, ap, sym, arith}
 use Rattle.std.proofs.Math.Nat.{mod-eq_of_lt}
 use Rattle.std.proofs.lemmas.Nat.{shr-shr}
 use Rattle.circuit.specs.Next.{register_inputs, bit_by_bit}
 use Rattle.circuit.specs.Signal.{sig_number}
 use Rattle.sim_base.specs.BitValue.{BitValue}
-use Rattle.sim_base.specs.Values.{number_at, width_at}
+use Rattle.sim_base.specs.Values.{number_at}
 use Rattle.sim_base.proofs.Words.{copied_above}
 use Rattle.sim_base.proofs.Written.{all_copied, copied_nothing, copied_there, copied_width, more_bits}
 use Rattle.signal_words.specs.Values.{digits_in}

@@ -1,4 +1,4 @@
-use Rattle.std.proofs.Common.{◌≡◌, ◌-◌, ◌/◌, ◌^◌, ◌<◌, ◌≤◌, cond}
+use Rattle.std.proofs.Common.{◌≡◌, ◌-◌, ◌/◌, ◌^◌, ◌≤◌, cond}
 use Rattle.circuit.specs.Next.{register_inputs, bit_by_bit}
 use Rattle.circuit.specs.Signal.{sig_number}
 use Rattle.sim_base.specs.Values.{number_at}

@@ -1,8 +1,8 @@
-use Rattle.std.proofs.Common.{◌≡◌, ◌+◌, ◌/◌, ◌^◌, ◌∙◌, ◌||◌, ℕ, List, get_or, sym, ap, arith}
+use Rattle.std.proofs.Common.{◌≡◌, ◌+◌, ◌/◌, ◌^◌, ◌∙◌, ◌||◌, ℕ, List, get_or, ap, arith}
 use Rattle.std.specs.Int.{bit_at}
 use Rattle.sim_base.specs.BitValue.{BitValue}
 use Rattle.sim_base.proofs.Field.{bit_at_mod, bit_at_shr}
-use Rattle.sim_base.specs.Values.{width_at, number_at}
+use Rattle.sim_base.specs.Values.{width_at}
 use Rattle.sim_base.proofs.Held.{widths_kept}
 use Rattle.sim_base.proofs.Written.{IsCopied, copied_nothing, copied_more}
 use Rattle.sim_base.proofs.values.Values.copy.Goals as goal

@@ -1,4 +1,4 @@
-use Rattle.std.proofs.Common.{◌≡◌, ◌∙◌, ℕ, List, ap, subst, sym, length, map}
+use Rattle.std.proofs.Common.{◌∙◌, ℕ, List, ap, subst, sym, length, map}
 use Rattle.sim_base.specs.Values.{room_of, values_of, IsLaidOut}
 use Rattle.sim_base.specs.declared.values.Span.{Span}
 use Rattle.sim_base.proofs.Held.{laid_as, same_widths}

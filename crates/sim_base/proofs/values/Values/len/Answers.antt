@@ -1,4 +1,4 @@
-use Rattle.std.proofs.Common.{◌≡◌, ◌^◌, ◌<◌, ◌∙◌, ℕ, List, ap, subst, sym, length, map}
+use Rattle.std.proofs.Common.{◌^◌, ◌<◌, ◌∙◌, List, ap, subst, sym, length, map}
 use Rattle.std.proofs.lemmas.List.{length-map}
 use Rattle.sim_base.specs.BitValue.{BitValue}
 use Rattle.sim_base.specs.declared.values.Span.{Span}

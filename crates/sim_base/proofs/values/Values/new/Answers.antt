@@ -1,7 +1,6 @@
 use Rattle.std.proofs.Common.{◌≡◌, ◌<◌, ◌^◌, ◌+◌, suc, ℕ, ◌∙◌, List, [], ◌∷◌, ◌++◌, length, get_or, map, take, replicate, take_all, sym, ap, subst, arith, length-append}
-use Rattle.std.proofs.lemmas.List.{map-append, length-map, get_or_read}
+use Rattle.std.proofs.lemmas.List.{map-append, length-map}
 use Rattle.std.proofs.Math.Seq.{take-suc}
-use Rattle.sim_base.specs.BitValue.{BitValue}
 use Rattle.sim_base.specs.Values.{place_of, room_of, values_of, IsLaidOut}
 use Rattle.sim_base.specs.declared.values.Span.{Span}
 use Rattle.sim_base.proofs.Blocks.{place_start, place_step, place_end, values_of_zeros}

@@ -1,4 +1,4 @@
-use Rattle.std.proofs.Common.{◌≡◌, ◌<◌, ◌≤◌, ◌+◌, suc, ℕ, ◌∙◌, List, length, get_or, sym, ap, arith}
+use Rattle.std.proofs.Common.{◌≡◌, ◌+◌, suc, ℕ, ◌∙◌, List, length, get_or, sym, ap, arith}
 use Rattle.sim_base.specs.BitValue.{BitValue}
 use Rattle.sim_base.specs.Values.{with_number, width_at}
 use Rattle.sim_base.proofs.Filled.{filled, filled_all, filled_length, filled_more, filled_none, filled_width}

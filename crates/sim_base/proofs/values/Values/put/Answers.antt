@@ -1,4 +1,4 @@
-use Rattle.std.proofs.Common.{◌≡◌, ◌^◌, ◌<◌, ◌%◌, ◌∙◌, sym, subst, arith}
+use Rattle.std.proofs.Common.{◌^◌, ◌<◌, ◌∙◌, sym, subst}
 use Rattle.std.proofs.Math.Nat.{mod-eq_of_lt}
 use Rattle.sim_base.proofs.Written.{all_copied}
 use Rattle.sim_base.proofs.values.Values.put.Goals as goal

@@ -1,7 +1,7 @@
 use Rattle.std.proofs.Common.{map, ◌≡◌, ◌+◌, ◌/◌, ◌<◌, ℕ, List, get_or, length, sym, ap, subst, arith}
 use Rattle.std.proofs.lemmas.List.{get_or_read}
 use Rattle.sim_base.specs.Values.{place_of, values_of, IsLaidOut}
-use Rattle.sim_base.proofs.Held.{inside_places, place_is}
+use Rattle.sim_base.proofs.Held.{place_is}
 use Rattle.sim_base.proofs.Written.{IsCopied, digit_inside, digits_laid, digits_copied}
 use Rattle.sim_base.specs.declared.values.Span.{Span}
 use Rattle.sim_base.proofs.values.Values.put_digits.Goals as goal

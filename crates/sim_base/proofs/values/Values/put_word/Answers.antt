@@ -1,5 +1,5 @@
 use Rattle.std.proofs.Common.{sym, arith}
-use Rattle.sim_base.proofs.Held.{inside_places, place_is, word_inside, one_read, one_view, one_laid}
+use Rattle.sim_base.proofs.Held.{place_is, word_inside, one_read, one_view, one_laid}
 use Rattle.sim_base.proofs.values.Values.put_word.Goals as goal
 
 pub store-requires : goal.store-requires

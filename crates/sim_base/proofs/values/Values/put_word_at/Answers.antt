@@ -1,6 +1,5 @@
-use Rattle.std.proofs.Common.{map, ◌≡◌, ◌+◌, ◌*◌, List, ℕ, sym, subst, arith, refl}
+use Rattle.std.proofs.Common.{map, ◌+◌, ◌*◌, List, ℕ, sym, subst, refl}
 use Rattle.sim_base.specs.Values.{values_of, IsLaidOut}
-use Rattle.sim_base.proofs.Held.{inside_places}
 use Rattle.sim_base.proofs.Written.{IsCopied, whole_inside, whole_laid, whole_copied}
 use Rattle.sim_base.specs.declared.values.Span.{Span}
 use Rattle.sim_base.proofs.values.Values.put_word_at.Goals as goal

@@ -1,4 +1,4 @@
-use Rattle.std.proofs.Common.{◌≡◌, ◌<◌, ◌∙◌, ℕ, List, length, get_or, map, sym, ap, arith}
+use Rattle.std.proofs.Common.{◌<◌, ◌∙◌, ℕ, List, length, sym, ap, arith}
 use Rattle.std.proofs.lemmas.List.{get_or-map, length-map}
 use Rattle.sim_base.specs.Values.{place_of}
 use Rattle.sim_base.specs.declared.values.Span.{Span}

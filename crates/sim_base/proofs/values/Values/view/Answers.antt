@@ -1,7 +1,7 @@
 use Rattle.std.proofs.Common.{◌≡◌, ◌+◌, ◌-◌, ◌/◌, ◌^◌, ◌<◌, ◌∙◌, ℕ, List, length, take, drop, sym, ap, subst, arith}
-use Rattle.sim_base.specs.BitValue.{BitValue, bit_value, number_of_words, AreWords}
+use Rattle.sim_base.specs.BitValue.{bit_value, number_of_words, AreWords}
 use Rattle.sim_base.specs.Values.{number_at, width_at}
-use Rattle.sim_base.proofs.Held.{inside, inside_places, below, part_width, part_inside, part_length, part_number, part_fit}
+use Rattle.sim_base.proofs.Held.{below, part_width, part_inside, part_length, part_number, part_fit}
 use Rattle.sim_base.proofs.values.Values.view.Goals as goal
 
 pub slice_bounds-result-end : goal.slice_bounds-result-end

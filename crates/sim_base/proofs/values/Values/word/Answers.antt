@@ -1,6 +1,6 @@
 use Rattle.std.proofs.Common.{◌∙◌, sym, arith}
 use Rattle.std.proofs.lemmas.List.{get_or_read}
-use Rattle.sim_base.proofs.Held.{inside_places, place_is, word_inside, one_read}
+use Rattle.sim_base.proofs.Held.{place_is, word_inside, one_read}
 use Rattle.sim_base.proofs.values.Values.word.Goals as goal
 
 pub index-requires : goal.index-requires

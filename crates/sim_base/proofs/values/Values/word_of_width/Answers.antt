@@ -1,9 +1,8 @@
-use Rattle.std.proofs.Common.{◌∙◌, ◌<◌, ◌^◌, ◌≤◌, subst, sym, arith}
+use Rattle.std.proofs.Common.{◌∙◌, ◌<◌, ◌^◌, subst, sym, arith}
 use Rattle.std.proofs.lemmas.List.{get_or_read}
-use Rattle.sim_base.specs.Values.{number_at, width_at}
+use Rattle.sim_base.specs.Values.{number_at}
 use Rattle.sim_base.proofs.Held.{below, place_is, word_inside, one_read}
 use Rattle.sim_base.proofs.values.Values.word_of_width.Goals as goal
-
 
 pub index-requires : goal.index-requires
 index-requires c =

@@ -1,7 +1,7 @@
 use Rattle.std.proofs.Common.{◌-◌, ◌*◌, ◌/◌, ◌%◌, ◌^◌, ◌∙◌, ap, sym, arith}
 use Rattle.std.proofs.Math.Nat.{zero-mul}
 use Rattle.cell_words.proofs.Taken.{zeros_taken, word_whole}
-use Rattle.cell_words.proofs.source.Source.take.Goals as goal
+use Rattle.cell_words.proofs.source.MovedDigits.take.Goals as goal
 
 pub returns-then-word-eq0-clause-word : goal.returns-then-word-eq0-clause-word
 returns-then-word-eq0-clause-word c =
