@@ -1,0 +1,5 @@
+pub mod Traversed
+pub mod Columns
+pub mod Named
+pub mod Grown
+pub mod LineSteps
