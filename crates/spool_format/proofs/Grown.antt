@@ -10,7 +10,7 @@ use Rattle.spool_format.specs.declared.sample.Sample.{Sample}
 use Rattle.spool_format.specs.Records.{IsNext, IsSampleOf, Records, change_record, change_records, chunk_samples, chunk_words, recording_words, times, whole_record}
 use Rattle.spool_format.proofs.Slots.{range_split}
 
-range_push : (n : ℕ) → range_with_len 0 (n + 1) ≡ range_with_len 0 n ++ n ∷ []
+pub range_push : (n : ℕ) → range_with_len 0 (n + 1) ≡ range_with_len 0 n ++ n ∷ []
 range_push n = let at : 0 + n ≡ n = omega arith in range_split 0 n 1 ∙ ap (λ k. range_with_len 0 n ++ range_with_len k 1) at
 
 flat_map_same : {A : Type 0} (f g : ℕ → List A) (a n : ℕ) → ((j : ℕ) → a ≤ j → j < a + n → f j ≡ g j) → flat_map f (range_with_len a n) ≡ flat_map g (range_with_len a n)
@@ -20,11 +20,11 @@ flat_map_same f g a (suc n) h =
     let rest = flat_map_same f g (a + 1) n (λ j low high. h j (omega arith) (omega arith)) in
     ap (λ xs. xs ++ flat_map f (range_with_len (a + 1) n)) first ∙ ap (λ xs. g a ++ xs) rest
 
-flat_map_push : {A : Type 0} (f : ℕ → List A) (n : ℕ) → flat_map f (range_with_len 0 (n + 1)) ≡ flat_map f (range_with_len 0 n) ++ f n
+pub flat_map_push : {A : Type 0} (f : ℕ → List A) (n : ℕ) → flat_map f (range_with_len 0 (n + 1)) ≡ flat_map f (range_with_len 0 n) ++ f n
 flat_map_push f n = ap (flat_map f) (range_push n) ∙ flat_map-append f (range_with_len 0 n) (n ∷ []) ∙ ap (λ xs. flat_map f (range_with_len 0 n) ++ xs) (append-nil (f n))
 
 -- a whole chunk stays as it is
-full_chunk : (xs ys : List Sample) (j : ℕ) → 256 * j + 256 ≤ length xs → chunk_samples (xs ++ ys) j ≡ chunk_samples xs j
+pub full_chunk : (xs ys : List Sample) (j : ℕ) → 256 * j + 256 ≤ length xs → chunk_samples (xs ++ ys) j ≡ chunk_samples xs j
 full_chunk xs ys j h =
     let inside : 256 * j ≤ length xs = omega arith in
     let left : 256 ≤ length (drop (256 * j) xs) = omega (arith, length-drop (256 * j) xs) in
@@ -36,7 +36,7 @@ full_chunks ws xs ys m h =
     flat_map_same (λ j. chunk_words ws (chunk_samples (xs ++ ys) j)) (λ j. chunk_words ws (chunk_samples xs j)) 0 m
     (λ j low high. ap (chunk_words ws) (full_chunk xs ys j (omega arith)))
 
-one_sample : (ws : List ℕ) (s : Sample) → chunk_words ws (s ∷ []) ≡ whole_record s
+pub one_sample : (ws : List ℕ) (s : Sample) → chunk_words ws (s ∷ []) ≡ whole_record s
 unfolding chunk_words change_records
 one_sample ws s = append-nil (whole_record s)
 
@@ -49,7 +49,7 @@ changes_push ws a (x ∷ xs) b s =
     ap (λ ys. change_record ws a x ++ ys) (changes_push ws x xs b s)
     ∙ sym (append_assoc (change_record ws a x) (change_records ws x (xs ++ b ∷ [])) (change_record ws b s))
 
-chunk_push : (ws : List ℕ) (xs : List Sample) (b s : Sample) → chunk_words ws (xs ++ b ∷ s ∷ []) ≡ chunk_words ws (xs ++ b ∷ []) ++ change_record ws b s
+pub chunk_push : (ws : List ℕ) (xs : List Sample) (b s : Sample) → chunk_words ws (xs ++ b ∷ s ∷ []) ≡ chunk_words ws (xs ++ b ∷ []) ++ change_record ws b s
 unfolding chunk_words change_records
 chunk_push ws [] b s = ap (λ xs. whole_record b ++ xs) (append-nil (change_record ws b s)) ∙ ap (λ xs. xs ++ change_record ws b s) (sym (append-nil (whole_record b)))
 chunk_push ws (x ∷ xs) b s =
@@ -100,13 +100,13 @@ words_change ws xs b s h =
     ∙ ap (λ ys. ys ++ change_record ws b s) (sym (flat_map_push (f (xs ++ b ∷ [])) m))
     ∙ ap (λ n. flat_map (f (xs ++ b ∷ [])) (range_with_len 0 n) ++ change_record ws b s) (sym chunks)
 
-numbered_push : (xs : List Sample) (s : Sample) → map (λ s. s.number) xs ≡ range_with_len 0 (length xs) → s.number ≡ length xs
+pub numbered_push : (xs : List Sample) (s : Sample) → map (λ s. s.number) xs ≡ range_with_len 0 (length xs) → s.number ≡ length xs
     → map (λ s. s.number) (xs ++ s ∷ []) ≡ range_with_len 0 (length (xs ++ s ∷ []))
 numbered_push xs s h n =
     map-append (λ s. s.number) xs (s ∷ []) ∙ ap (λ ys. ys ++ s.number ∷ []) h ∙ ap (λ k. range_with_len 0 (length xs) ++ k ∷ []) n
     ∙ sym (range_push (length xs)) ∙ ap (range_with_len 0) (sym (length_push xs s))
 
-rising_push : (xs : List Sample) (s : Sample) → ((k : ℕ) → k + 1 < length xs → get_or (times xs) k 0 < get_or (times xs) (k + 1) 0)
+pub rising_push : (xs : List Sample) (s : Sample) → ((k : ℕ) → k + 1 < length xs → get_or (times xs) k 0 < get_or (times xs) (k + 1) 0)
     → ((k : ℕ) → k + 1 ≡ length xs → get_or (times xs) k 0 < s.time)
     → (k : ℕ) → k + 1 < length (xs ++ s ∷ []) → get_or (times (xs ++ s ∷ [])) k 0 < get_or (times (xs ++ s ∷ [])) (k + 1) 0
 rising_push xs s rise later k h =

@@ -4,3 +4,8 @@ pub mod Counted
 pub mod Grown
 pub mod Read
 pub mod Told
+pub mod Blocks
+pub mod Placed
+pub mod SlotsSet
+pub mod Decoded
+pub mod KeptOn

@@ -27,7 +27,7 @@ fronts ws xs ys h (suc n) within =
     ap (λ m. take m xs) next ∙ take-add (place_of ws n) k xs ∙ ap (λ zs. zs ++ take k (drop (place_of ws n) xs)) before
     ∙ ap (λ zs. take (place_of ws n) ys ++ zs) here ∙ sym (take-add (place_of ws n) k ys) ∙ ap (λ m. take m ys) (sym next)
 
-same_slots : (ws xs ys : List ℕ) → length xs ≡ words_of_widths ws → length ys ≡ words_of_widths ws
+pub same_slots : (ws xs ys : List ℕ) → length xs ≡ words_of_widths ws → length ys ≡ words_of_widths ws
     → ((n : ℕ) → n < length ws → slot_words ws xs n ≡ slot_words ws ys n) → xs ≡ ys
 same_slots ws xs ys long_xs long_ys h =
     let all : place_of ws (length ws) ≡ words_of_widths ws = ap words_of_widths (take_all (length ws) ws (omega arith)) in
@@ -48,14 +48,14 @@ split_same a b x y long h = (
   sym (drop_at a x (length a) refl) ∙ ap (drop (length a)) h ∙ drop_at b y (length a) (sym long),
 )
 
-abbrev Each : (ℕ → Type 0) → List ℕ → Type 0
+abbrev pub Each : (ℕ → Type 0) → List ℕ → Type 0
 Each P [] = Unit {0}
 Each P (x ∷ xs) = P x × Each P xs
 
-head_same : {x y : ℕ} {xs ys : List ℕ} → x ∷ xs ≡ y ∷ ys → x ≡ y
+pub head_same : {x y : ℕ} {xs ys : List ℕ} → x ∷ xs ≡ y ∷ ys → x ≡ y
 head_same h = cc
 
-tail_same : {x y : ℕ} {xs ys : List ℕ} → x ∷ xs ≡ y ∷ ys → xs ≡ ys
+pub tail_same : {x y : ℕ} {xs ys : List ℕ} → x ∷ xs ≡ y ∷ ys → xs ≡ ys
 tail_same h = cc
 
 listed : (f g : ℕ → List ℕ) → ((n : ℕ) → length (f n) ≡ length (g n)) → (ls ms r q : List ℕ) → length ls ≡ length ms
@@ -77,7 +77,7 @@ listed f g long (l ∷ ls) (m ∷ ms) r q h same =
 
 -- ---- which slots are listed
 
-by_cases : {A : Type 0} (b : Bool) → (b ≡ true → A) → (b ≡ false → A) → A
+pub by_cases : {A : Type 0} (b : Bool) → (b ≡ true → A) → (b ≡ false → A) → A
 by_cases true t f = t refl
 by_cases false t f = f refl
 
@@ -139,7 +139,7 @@ whole_told ws s t r q hs ht h =
     let rest = split_same s.words t.words r q (hs.room ∙ sym ht.room) parts.1 in
     (parts.0, rest.0, rest.1)
 
-undiffer : (ws old new : List ℕ) (n : ℕ) → differs ws old new n ≡ false → slot_words ws old n ≡ slot_words ws new n
+pub undiffer : (ws old new : List ℕ) (n : ℕ) → differs ws old new n ≡ false → slot_words ws old n ≡ slot_words ws new n
 undiffer ws old new n h = (bytes_eq-Decides (slot_words ws old n) (slot_words ws new n)).0 (not-false (bytes_eq (slot_words ws old n) (slot_words ws new n)) h)
 
 slots_told : (ws old xs ys : List ℕ) → length xs ≡ words_of_widths ws → length ys ≡ words_of_widths ws → changed_slots ws old xs ≡ changed_slots ws old ys

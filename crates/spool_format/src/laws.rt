@@ -1,10 +1,13 @@
 //! Laws of records. A function here does nothing: its contract is the law.
-ghost use Rattle.std.specs.Prelude.{◌≡◌, ◌≢◌, ◌≤◌, ◌%◌, ◌++◌, ◌∷◌, [], List, None, Some, map, length, ℕ};
+ghost use Rattle.std.specs.Prelude.{◌≡◌, ◌≢◌, ◌≤◌, ◌+◌, ◌%◌, flat_map, ◌++◌, ◌∷◌, [], List, None, Some, map, length, ℕ};
 ghost use Rattle.std.specs.List.{All};
 ghost use Rattle.sim_base.specs.TimeText.{largest_time};
 ghost use Rattle.spool_format.specs.declared.sample.Sample.{Sample};
 ghost use Rattle.spool_format.specs.Fields.{IsRead};
-ghost use Rattle.spool_format.specs.Records.{IsNext, IsSampleOf, Records, change_record, changed_slots, chunk_words, times, whole_record};
+ghost use Rattle.spool_format.specs.Records.{IsNext, IsSampleOf, Records, change_record, changed_slots, chunk_words, slots_with_words, times, whole_record};
+ghost use Rattle.spool_format.specs.Kept.{AreChunksOf, Recording, next_record, recording_of, with_sample};
+ghost use Rattle.spool_format.specs.Reading.{set_slots};
+ghost use Rattle.sim_base.specs.Shape.{words_of_widths};
 ghost use Rattle.spool_format.specs.Worked.{counter, sample_of};
 
 /// No words record no samples.
@@ -57,4 +60,38 @@ pub fn worked_records()
 pub fn law_of_reading()
     ensures { (widths : List ℕ) → (one other : List Sample) → All (IsSampleOf widths) one → All (IsSampleOf widths) other
         → chunk_words widths one ≡ chunk_words widths other → (times one ≡ times other) × (map (λ s. s.words) one ≡ map (λ s. s.words) other) }
+{}
+
+/// Where a list of the slots that differ stands, setting them in the words of the sample before gives those of the next one.
+#[tactic(auto, using(crate::proofs::SlotsSet::changes_set))]
+pub fn law_of_setting()
+    ensures { (widths rest : List ℕ) → (before s : Sample) → length before.words ≡ words_of_widths widths → length s.words ≡ words_of_widths widths
+        → set_slots widths (length (changed_slots widths before.words s.words)) (slots_with_words widths s.words (changed_slots widths before.words s.words) ++ rest) before.words ≡ s.words }
+{}
+
+/// The recording that chunks stand for is the one that they keep.
+#[tactic(auto, using(crate::proofs::Decoded::kept_read))]
+pub fn law_of_samples()
+    ensures { (r : Recording) → (full : List (List ℕ)) → (growing : List ℕ) → AreChunksOf r full growing → recording_of r.widths full growing ≡ r }
+{}
+
+/// The words of all chunks record the samples.
+#[tactic(auto, using(crate::proofs::KeptOn::kept_records))]
+pub fn law_of_kept()
+    ensures { (r : Recording) → (full : List (List ℕ)) → (growing : List ℕ) → AreChunksOf r full growing
+        → Records r.widths (flat_map (λ words. words) (full ++ growing ∷ [])) r.samples }
+{}
+
+/// With the record of the next sample behind the chunk that grows, the chunks keep one sample more. The chunk is full at 256.
+pub fn law_of_next()
+    ensures within { (r : Recording) → (full : List (List ℕ)) → (growing : List ℕ) → (s : Sample) → AreChunksOf r full growing → IsNext r.widths r.samples s
+        → (length r.samples + 1) % 256 ≢ 0 → AreChunksOf (with_sample r s) full (growing ++ next_record r s) }
+    ensures full { (r : Recording) → (full : List (List ℕ)) → (growing : List ℕ) → (s : Sample) → AreChunksOf r full growing → IsNext r.widths r.samples s
+        → (length r.samples + 1) % 256 ≡ 0 → AreChunksOf (with_sample r s) (full ++ (growing ++ next_record r s) ∷ []) [] }
+{}
+
+/// No chunks stand for no samples.
+pub fn law_of_no_chunks()
+    ensures kept { (widths : List ℕ) → AreChunksOf (recording_of widths [] []) [] [] }
+    ensures samples { (widths : List ℕ) → (recording_of widths [] []).samples ≡ [] }
 {}

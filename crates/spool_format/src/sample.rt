@@ -1,5 +1,6 @@
 //! Samples of a recording.
-ghost use Rattle.std.specs.Prelude.{◌≡◌, length};
+ghost use Rattle.std.specs.Prelude.{◌≡◌, ◌+◌, ◌≤◌, ◌==◌, length};
+ghost use Rattle.spool_format.specs.Reading.{written_at};
 
 use sim_base::Time;
 use std::marker::Model;
@@ -30,6 +31,37 @@ impl Words {
         ensures { result.now ≡ self.now }
     {
         self.items.as_slice()
+    }
+
+    /// Takes over the values of as many words.
+    pub fn copy_from(&mut self, words: &[u32])
+        requires { length words.now ≡ length self.old }
+        ensures { self.new ≡ words.now }
+    {
+        self.items.copy_from_slice(words);
+    }
+
+    /// Puts words over those from a place on.
+    pub fn write_at(&mut self, place: usize, words: &[u32])
+        requires { place + length words.now ≤ length self.old }
+        ensures { self.new ≡ written_at self.old place words.now }
+    {
+        let _len = self.items.len();
+        let end = place + words.len();
+        self.items[place..end].copy_from_slice(words);
+    }
+
+    /// How many words there are.
+    pub fn len(&self) -> usize
+        ensures { result ≡ length self.now }
+    {
+        self.items.len()
+    }
+
+    pub fn is_empty(&self) -> bool
+        ensures { result ≡ (length self.now == 0) }
+    {
+        self.items.is_empty()
     }
 
     /// Gives the words back, without a copy.
