@@ -1,0 +1,130 @@
+//! A recording that grows.
+ghost use Rattle.std.specs.Prelude.{◌≡◌, [], ◌++◌, if◌then◌else◌, IfOk, is_ok, length};
+ghost use Rattle.std.specs.Arc.{arc_value};
+ghost use Rattle.spool_format.specs.Kept.{with_sample};
+ghost use Rattle.spool_format.specs.Records.{IsNext};
+ghost use Rattle.spool_writer.specs.Growing.{AreNext};
+
+use crate::grow::{close_full, keep_last, write_next};
+use sim_base::{NoMemory, Time};
+use spool_format::{Chunks, Sample, Shape, SpoolView, Words};
+use std::alloc::Global;
+use std::marker::Model;
+use std::sync::Arc;
+
+/// A recording that grows by samples. Contracts see the widths of its slots and the samples.
+#[derive(Debug, Drop)]
+pub struct Spool {
+    shape: Arc<Shape>,
+    full: Chunks,
+    growing: Vec<u32>,
+    count: u64,
+    /// The last sample, where there is one.
+    last: Sample,
+}
+
+impl Model for Spool {
+    ghost use Rattle.std.specs.Arc.{arc_value};
+    ghost use Rattle.spool_format.specs.Kept.{Recording, recording_of};
+    ghost use Rattle.spool_writer.specs.Growing.{IsGrowing};
+
+    ghost Value = { Recording };
+
+    ghost view = { λ s. recording_of (arc_value s.shape) s.full s.growing.items };
+
+    ghost invariant = { λ s. IsGrowing (recording_of (arc_value s.shape) s.full s.growing.items) s.full s.growing.items s.count s.last.words };
+}
+
+impl Spool {
+    /// No samples yet.
+    pub fn new(alloc: Global, shape: Arc<Shape>) -> Result<Spool, NoMemory>
+        ensures { IfOk result (λ spool. spool ≡ record { widths = arc_value shape; samples = [] }) }
+    {
+        let words = Words::new(vec![in alloc; 0u32; shape.words() as usize]?);
+        let last = Sample {
+            number: 0,
+            time: Time::zero(),
+            words,
+        };
+        Ok(Spool {
+            shape,
+            full: Chunks::new(alloc),
+            growing: Vec::new(alloc),
+            count: 0,
+            last,
+        })
+    }
+
+    /// How many samples were recorded.
+    pub fn count(&self) -> u64
+        ensures { result ≡ length self.now.samples }
+    {
+        self.count
+    }
+
+    /// Records the next sample. Where memory is wanting, the recording is as before. 18446744073709551615 samples are the
+    /// most: one more is want of memory, too.
+    pub fn push(&mut self, alloc: Global, s: &Sample) -> Result<(), NoMemory>
+        requires { IsNext self.old.widths self.old.samples s.now }
+        ensures { self.new ≡ (if is_ok result then with_sample self.old s.now else self.old) }
+    {
+        let Some(count) = self.count.checked_add(1) else {
+            return Err(NoMemory);
+        };
+        let start = self.growing.len();
+        write_next(&self.shape, self.count, &self.last, s, &mut self.growing)?;
+        let closed = close_full(alloc, count, &mut self.full, &mut self.growing);
+        if closed.is_err() {
+            self.growing.truncate(start);
+            return closed;
+        }
+        keep_last(&mut self.last, s);
+        self.count = count;
+        Ok(())
+    }
+
+    /// Records the next samples: all of them, or none where memory is wanting.
+    pub fn push_all(&mut self, alloc: Global, samples: &[Sample]) -> Result<(), NoMemory>
+        requires { AreNext self.old samples.now }
+        ensures { self.new ≡ (if is_ok result then record { widths = self.old.widths; samples = self.old.samples ++ samples.now } else self.old) }
+    {
+        let mut more = self.copy(alloc)?;
+        for s in samples {
+            more.push(alloc, s)?;
+        }
+        *self = more;
+        Ok(())
+    }
+
+    /// The samples so far. The view shares the full chunks and copies the one that grows.
+    pub fn view(&self, alloc: Global) -> Result<SpoolView, NoMemory>
+        ensures { IfOk result (λ view. view ≡ self.now) }
+    {
+        let shape = Arc::try_clone(&self.shape)?;
+        let full = self.full.share(alloc)?;
+        let growing = Words::new(Vec::from_slice(alloc, &self.growing)?);
+        Ok(SpoolView::new(shape, full, growing, self.count))
+    }
+
+    /// The same recording, which shares the full chunks.
+    fn copy(&self, alloc: Global) -> Result<Spool, NoMemory>
+        ensures { IfOk result (λ copy. copy ≡ self.now) }
+    {
+        let shape = Arc::try_clone(&self.shape)?;
+        let full = self.full.share(alloc)?;
+        let growing = Vec::from_slice(alloc, &self.growing)?;
+        let words = Words::new(Vec::from_slice(alloc, self.last.words.as_slice())?);
+        let last = Sample {
+            number: self.last.number,
+            time: self.last.time,
+            words,
+        };
+        Ok(Spool {
+            shape,
+            full,
+            growing,
+            count: self.count,
+            last,
+        })
+    }
+}
