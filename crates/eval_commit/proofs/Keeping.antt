@@ -19,8 +19,8 @@ use Rattle.driver_check.proofs.Places.{found}
 use Rattle.signal_words.specs.Stores.{IsStoreOf}
 use Rattle.sim_base.specs.Values.{widths}
 use Rattle.signal_words.proofs.Fitting.{mapped_at}
-use Rattle.eval_commit.specs.Held.{HasKept, Kept, is_kept, kept_value}
-use Rattle.eval_commit.specs.Round.{AreInputsOf}
+use Rattle.eval_commit.specs.Seeding.{HasKept, Kept, is_kept, kept_value}
+use Rattle.eval_commit.specs.Evaluation.{AreInputsOf}
 use Rattle.circuit.specs.Valuation.{offset_of}
 use Rattle.eval_commit.proofs.Belonging.{value_at}
 

@@ -13,7 +13,7 @@ use Rattle.driver_check.proofs.Places.{found, within}
 use Rattle.memory_cells.specs.Rows.{AreRowsOf, RowValues}
 use Rattle.eval_commit.specs.Fired.{none_fired}
 use Rattle.eval_commit.specs.Machine.{MachineState, after_sample}
-use Rattle.eval_commit.specs.Rounds.{AreRoundsOf, standing_of}
+use Rattle.eval_commit.specs.Invariant.{AreRoundsOf, standing_of}
 use Rattle.eval_commit.specs.declared.step.Rounds.{Rounds}
 use Rattle.eval_commit.proofs.Belonging.{fetched, value_read}
 use Rattle.eval_commit.proofs.Firing.{cleared_at}

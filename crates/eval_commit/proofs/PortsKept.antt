@@ -24,8 +24,8 @@ use Rattle.memory_cells.specs.Rows.{AreRowsOf, RowValues, start_rows}
 use Rattle.sim_base.specs.Values.{numbers, widths}
 use Rattle.signal_words.proofs.Fitting.{memory_of}
 use Rattle.eval_commit.specs.Computed.{AreAllRows}
-use Rattle.eval_commit.specs.Round.{Holds}
-use Rattle.eval_commit.specs.Stored.{kept_state, stored_all}
+use Rattle.eval_commit.specs.Evaluation.{Holds}
+use Rattle.eval_commit.specs.KeptState.{kept_state, stored_all}
 use Rattle.eval_commit.proofs.PortsOver.{long_as, over, over_all, over_at, over_more, told_more, unchanged}
 
 -- ---- elements of what is kept

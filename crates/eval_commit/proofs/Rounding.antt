@@ -33,8 +33,8 @@ use Rattle.signal_words.specs.Stores.{IsStoreOf}
 use Rattle.sim_base.specs.Values.{numbers}
 use Rattle.signal_words.specs.Values.{digits_in}
 use Rattle.eval_commit.specs.Computed.{AreAllRows, cell_number, computed, node_row}
-use Rattle.eval_commit.specs.Held.{HasKept, IsSeeded, is_kept, kept_value}
-use Rattle.eval_commit.specs.Round.{Holds, IsBlank}
+use Rattle.eval_commit.specs.Seeding.{HasKept, IsSeeded, is_kept, kept_value}
+use Rattle.eval_commit.specs.Evaluation.{Holds, IsBlank}
 use Rattle.eval_commit.specs.Spread.{IsCovered, IsSpread}
 use Rattle.eval_commit.proofs.Belonging.{read_at}
 use Rattle.eval_commit.proofs.Keeping.{kept_of, outs_at}

@@ -13,7 +13,7 @@ use Rattle.sim_base.specs.Values.{width_at, widths}
 use Rattle.signal_words.specs.Values.{digits_in}
 use Rattle.eval_plan.specs.Roots.{AreApart}
 use Rattle.eval_commit.specs.Spread.{IsRootInside, IsSpread, taken_digit}
-use Rattle.eval_commit.specs.Held.{HasKept, IsSeeded, Kept, is_kept, kept_value}
+use Rattle.eval_commit.specs.Seeding.{HasKept, IsSeeded, Kept, is_kept, kept_value}
 
 -- ---- what stays inside where widths stay
 

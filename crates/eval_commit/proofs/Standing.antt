@@ -19,9 +19,9 @@ use Rattle.signal_words.specs.Stores.{IsStoreOf}
 use Rattle.sim_base.specs.Values.{numbers, widths}
 use Rattle.eval_commit.specs.Computed.{AreAllRows}
 use Rattle.eval_commit.specs.Fired.{none_fired}
-use Rattle.eval_commit.specs.Round.{IsBlank, input_width}
-use Rattle.eval_commit.specs.Rounds.{ArePortsOf, AreRoundsOf, standing_of, state_of}
-use Rattle.eval_commit.specs.Stored.{kept_state, stored_all}
+use Rattle.eval_commit.specs.Evaluation.{IsBlank, input_width}
+use Rattle.eval_commit.specs.Invariant.{ArePortsOf, AreRoundsOf, standing_of, state_of}
+use Rattle.eval_commit.specs.KeptState.{kept_state, stored_all}
 use Rattle.eval_commit.specs.declared.step.Rounds.{Rounds}
 use Rattle.eval_commit.proofs.Firing.{none_fired_length}
 use Rattle.eval_commit.proofs.PortsOver.{long_as}

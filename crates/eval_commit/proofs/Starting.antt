@@ -18,7 +18,7 @@ use Rattle.circuit.specs.declared.memory.ReadPort.{ReadPort}
 use Rattle.memory_cells.specs.Rows.{AreRowsOf, RowValues, start_rows}
 use Rattle.sim_base.specs.Values.{numbers, widths}
 use Rattle.eval_commit.specs.Computed.{AreAllRows}
-use Rattle.eval_commit.specs.Round.{AreInputsOf, Holds, IsBlank, input_width}
+use Rattle.eval_commit.specs.Evaluation.{AreInputsOf, Holds, IsBlank, input_width}
 
 zeros_widths : {X : Type 0} (f : X → ℕ) (xs : List X) → widths (map (λ x. zeros (f x)) xs) ≡ map f xs
 zeros_widths f [] = refl

@@ -1,8 +1,8 @@
 pub mod Spread
-pub mod Held
+pub mod Seeding
 pub mod Computed
-pub mod Round
-pub mod Stored
+pub mod Evaluation
+pub mod KeptState
 pub mod Fired
-pub mod Rounds
+pub mod Invariant
 pub mod Machine

@@ -9,7 +9,7 @@ ghost use Rattle.circuit.specs.declared.netlist.Net.{Net as TheNet};
 ghost use Rattle.sim_base.specs.Values.{numbers};
 ghost use Rattle.eval_commit.specs.Fired.{none_fired};
 ghost use Rattle.eval_commit.specs.Machine.{after_sample, rounds_of_sample};
-ghost use Rattle.eval_commit.specs.Round.{AreInputsOf};
+ghost use Rattle.eval_commit.specs.Evaluation.{AreInputsOf};
 ghost use Rattle.eval_plan.specs.Plans.{IsPlanOf};
 ghost use Rattle.eval_commit.specs.declared.settle.Settled.TheVariants as settled_as;
 
@@ -40,7 +40,7 @@ impl Model for Machine {
     ghost use Rattle.eval_commit.specs.Fired.{none_fired};
     ghost use Rattle.eval_commit.specs.Machine.{MachineState};
     ghost use Rattle.eval_plan.specs.Plans.{IsPlanOf};
-    ghost use Rattle.eval_commit.specs.Rounds.{AreRoundsOf, standing_of};
+    ghost use Rattle.eval_commit.specs.Invariant.{AreRoundsOf, standing_of};
 
     ghost Value = { MachineState };
 

@@ -10,7 +10,7 @@ ghost use Rattle.signal_words.specs.Stores.{IsStoreOf};
 ghost use Rattle.sim_base.specs.Values.{widths};
 ghost use Rattle.signal_words.specs.Values.{digits_in};
 ghost use Rattle.eval_commit.specs.Computed.{AreAllRows};
-ghost use Rattle.eval_commit.specs.Stored.{stored_all};
+ghost use Rattle.eval_commit.specs.KeptState.{stored_all};
 
 use crate::copy::copy_values;
 use circuit::{Circuit, Listing, Mem, Store};

@@ -9,7 +9,7 @@ ghost use Rattle.sim_base.specs.Values.{width_at, widths};
 ghost use Rattle.signal_words.specs.Values.{digits_in};
 ghost use Rattle.eval_plan.specs.Roots.{AreApart};
 ghost use Rattle.eval_commit.specs.Spread.{AreRootsInside, IsRootInside, IsSpread, taken_digit};
-ghost use Rattle.eval_commit.specs.Held.{HasKept, IsSeeded, Kept, is_kept, kept_value};
+ghost use Rattle.eval_commit.specs.Seeding.{HasKept, IsSeeded, Kept, is_kept, kept_value};
 
 use circuit::{By, Drive, Listing};
 use sim_base::{Bits, BitsView, Values};

@@ -12,8 +12,8 @@ ghost use Rattle.signal_words.specs.Stores.{IsStoreOf};
 ghost use Rattle.sim_base.specs.Values.{numbers, widths};
 ghost use Rattle.signal_words.specs.Values.{digits_in};
 ghost use Rattle.eval_commit.specs.Computed.{AreAllRows};
-ghost use Rattle.eval_commit.specs.Held.{IsSeeded};
-ghost use Rattle.eval_commit.specs.Round.{AreInputsOf, Holds, IsBlank};
+ghost use Rattle.eval_commit.specs.Seeding.{IsSeeded};
+ghost use Rattle.eval_commit.specs.Evaluation.{AreInputsOf, Holds, IsBlank};
 
 use crate::node::compute;
 use crate::put::seed;

@@ -3,9 +3,9 @@ ghost use Rattle.std.specs.Prelude.{◌≡◌, ℕ, ◌+◌, ◌*◌, Some, None
 ghost use Rattle.circuit.specs.Rounds.{rounds_from, settled};
 ghost use Rattle.circuit.specs.Shown.{fires_by};
 ghost use Rattle.sim_base.specs.Values.{numbers};
-ghost use Rattle.eval_commit.specs.Round.{AreInputsOf};
+ghost use Rattle.eval_commit.specs.Evaluation.{AreInputsOf};
 ghost use Rattle.eval_plan.specs.Plans.{IsPlanOf};
-ghost use Rattle.eval_commit.specs.Rounds.{AreRoundsOf, standing_of};
+ghost use Rattle.eval_commit.specs.Invariant.{AreRoundsOf, standing_of};
 ghost use Rattle.eval_commit.specs.declared.settle.Settled.TheVariants as settled_as;
 
 use crate::diagnostics::clear_fired;

@@ -9,7 +9,7 @@ ghost use Rattle.circuit.specs.declared.netlist.Drive.{Drive as TheDrive};
 ghost use Rattle.memory_cells.specs.Rows.{start_rows};
 ghost use Rattle.sim_base.specs.Values.{widths};
 ghost use Rattle.eval_commit.specs.Computed.{AreAllRows};
-ghost use Rattle.eval_commit.specs.Round.{AreInputsOf, Holds, IsBlank, input_width};
+ghost use Rattle.eval_commit.specs.Evaluation.{AreInputsOf, Holds, IsBlank, input_width};
 
 use circuit::{Circuit, Listing};
 use memory_cells::{Rows, law_of_memories};

@@ -9,9 +9,9 @@ ghost use Rattle.eval_plan.specs.declared.plan.Plan.{Plan as ThePlan};
 ghost use Rattle.sim_base.specs.Values.{numbers};
 ghost use Rattle.state_cells.specs.Diagnostics.{round_of};
 ghost use Rattle.eval_commit.specs.Fired.{all_fired_after, none_fired};
-ghost use Rattle.eval_commit.specs.Round.{AreInputsOf};
+ghost use Rattle.eval_commit.specs.Evaluation.{AreInputsOf};
 ghost use Rattle.eval_plan.specs.Plans.{IsPlanOf};
-ghost use Rattle.eval_commit.specs.Rounds.{AreRoundsOf, standing_of, state_of};
+ghost use Rattle.eval_commit.specs.Invariant.{AreRoundsOf, standing_of, state_of};
 
 use crate::diagnostics::{next_fired, start_fired};
 use crate::ports::{Ports, next_mems, put_reads, start_ports};

@@ -2,7 +2,7 @@ use Rattle.std.proofs.Common.{◌∙◌, ap, arith, length}
 use Rattle.circuit.specs.declared.memory.Mem.{Mem}
 use Rattle.sim_base.specs.Values.{widths}
 use Rattle.signal_words.specs.Values.{digits_in}
-use Rattle.eval_commit.specs.Stored.{stored_all}
+use Rattle.eval_commit.specs.KeptState.{stored_all}
 use Rattle.memory_cells.proofs.Fitting.{same_there}
 use Rattle.eval_commit.proofs.PortsOver.{long_as, read_as}
 use Rattle.eval_commit.proofs.PortsKept.{clocked_all, clocked_first, clocked_more, clocked_told, port_widths}

@@ -1,5 +1,5 @@
 use Rattle.signal_words.specs.Values.{digits_in}
-use Rattle.eval_commit.specs.Stored.{stored_all}
+use Rattle.eval_commit.specs.KeptState.{stored_all}
 use Rattle.eval_commit.proofs.PortsKept.{AreClocked}
 use Rattle.eval_commit.proofs.ports.next_mems.Given as goal
 

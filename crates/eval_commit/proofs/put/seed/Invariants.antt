@@ -1,6 +1,6 @@
 use Rattle.std.proofs.Common.{◌≡◌}
 use Rattle.sim_base.specs.Values.{widths}
-use Rattle.eval_commit.specs.Held.{IsSeeded}
+use Rattle.eval_commit.specs.Seeding.{IsSeeded}
 use Rattle.eval_commit.proofs.put.seed.Given as goal
 
 abbrev pub invariant-loop-root : goal.invariant-loop-root

@@ -6,7 +6,7 @@ use Rattle.circuit.specs.Valuation.{IsValuation}
 use Rattle.signal_words.specs.Stores.{IsStoreOf}
 use Rattle.sim_base.specs.Values.{numbers, widths}
 use Rattle.eval_commit.specs.Computed.{steps_of}
-use Rattle.eval_commit.specs.Round.{Holds, IsBlank}
+use Rattle.eval_commit.specs.Evaluation.{Holds, IsBlank}
 use Rattle.eval_commit.proofs.Meaning.{AreRight}
 use Rattle.eval_commit.proofs.round.evaluate.Given as goal
 

@@ -2,7 +2,7 @@ use Rattle.std.proofs.Common.{◌≡◌, List, sym, subst, Some}
 use Rattle.std.specs.Prelude.{slice_get}
 use Rattle.sim_base.specs.BitValue.{BitValue}
 use Rattle.circuit.specs.declared.netlist.Drive.{Drive}
-use Rattle.eval_commit.specs.Held.{HasKept}
+use Rattle.eval_commit.specs.Seeding.{HasKept}
 use Rattle.eval_commit.proofs.Belonging.{roots_inside}
 use Rattle.eval_commit.proofs.Keeping.{has_kept}
 use Rattle.eval_commit.proofs.round.seed_store.Goals as goal

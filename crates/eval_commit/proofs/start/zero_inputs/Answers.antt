@@ -2,7 +2,7 @@ use Rattle.std.proofs.Common.{◌≡◌, ℕ, length, map, take, ◌∙◌, ap}
 use Rattle.std.proofs.Math.Seq.{take-length}
 use Rattle.sim_base.specs.BitValue.{BitValue, zeros}
 use Rattle.sim_base.specs.Values.{widths}
-use Rattle.eval_commit.specs.Round.{input_width}
+use Rattle.eval_commit.specs.Evaluation.{input_width}
 use Rattle.eval_commit.proofs.Belonging.{ended}
 use Rattle.eval_commit.proofs.Starting.{first_inputs}
 use Rattle.eval_commit.proofs.start.zero_inputs.Goals as goal

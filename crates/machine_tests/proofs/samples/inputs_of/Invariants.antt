@@ -1,4 +1,4 @@
-use Rattle.eval_commit.specs.Round.{AreInputsOf}
+use Rattle.eval_commit.specs.Evaluation.{AreInputsOf}
 use Rattle.machine_tests.proofs.samples.inputs_of.Given as goal
 
 abbrev pub invariant-loop-n : goal.invariant-loop-n

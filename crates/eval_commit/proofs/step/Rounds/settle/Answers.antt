@@ -2,7 +2,7 @@ use Rattle.std.proofs.Common.{◌≡◌, ◌+◌, ◌*◌, length, ◌∙◌, sy
 use Rattle.std.proofs.lemmas.List.{length-map}
 use Rattle.circuit.specs.State.{same_state}
 use Rattle.sim_base.specs.Values.{numbers}
-use Rattle.eval_commit.specs.Rounds.{state_of}
+use Rattle.eval_commit.specs.Invariant.{state_of}
 use Rattle.eval_commit.proofs.Firing.{all_cleared}
 use Rattle.eval_commit.proofs.Settling.{all_done, all_left, has_fired, has_not_settled, has_settled, one_less, settled_in, stepped_more, told_changed, told_unchanged}
 use Rattle.eval_commit.proofs.Standing.{flags_put}

@@ -1,6 +1,6 @@
 use Rattle.std.proofs.Common.{◌≡◌, ◌+◌, ◌*◌, length}
 use Rattle.sim_base.specs.Values.{numbers}
-use Rattle.eval_commit.specs.Rounds.{AreRoundsOf, state_of}
+use Rattle.eval_commit.specs.Invariant.{AreRoundsOf, state_of}
 use Rattle.eval_commit.proofs.Settling.{IsLeft}
 use Rattle.eval_commit.proofs.step.Rounds.settle.Given as goal
 

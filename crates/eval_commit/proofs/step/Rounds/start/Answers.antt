@@ -1,5 +1,5 @@
 use Rattle.std.proofs.Common.{◌∙◌}
-use Rattle.eval_commit.specs.Rounds.{state_of}
+use Rattle.eval_commit.specs.Invariant.{state_of}
 use Rattle.eval_commit.proofs.Standing.{start_is}
 use Rattle.eval_commit.proofs.step.Rounds.start.Goals as goal
 

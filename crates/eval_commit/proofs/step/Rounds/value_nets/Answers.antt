@@ -1,8 +1,8 @@
 use Rattle.std.proofs.Common.{List, sym, ◌∙◌, ap, subst}
 use Rattle.memory_cells.specs.Rows.{RowValues}
 use Rattle.sim_base.specs.Values.{numbers}
-use Rattle.eval_commit.specs.Round.{Holds}
-use Rattle.eval_commit.specs.Rounds.{state_of}
+use Rattle.eval_commit.specs.Evaluation.{Holds}
+use Rattle.eval_commit.specs.Invariant.{state_of}
 use Rattle.eval_commit.proofs.PortsKept.{kept_holds}
 use Rattle.eval_commit.proofs.Standing.{ports_long}
 use Rattle.eval_commit.proofs.step.Rounds.value_nets.Goals as goal

@@ -8,8 +8,8 @@ use Rattle.sim_base.specs.BitValue.{BitValue}
 use Rattle.signal_words.specs.Stores.{IsStoreOf}
 use Rattle.sim_base.specs.Values.{numbers, widths}
 use Rattle.eval_commit.specs.Computed.{AreAllRows}
-use Rattle.eval_commit.specs.Round.{IsBlank}
-use Rattle.eval_commit.specs.Stored.{kept_state}
+use Rattle.eval_commit.specs.Evaluation.{IsBlank}
+use Rattle.eval_commit.specs.KeptState.{kept_state}
 use Rattle.eval_commit.specs.declared.step.Rounds.{Rounds}
 
 -- a value for each read port, of the width of a row
