@@ -2,34 +2,7 @@ use crate::{TextFault, TokenKind, lex};
 use std::alloc::Global;
 use std::str::from_utf8;
 use std::test::Fail;
-
-const COUNTER: &[u8] = br#"autoidx 5
-attribute \top 1
-attribute \src "counter.v:1.1-7.10"
-module \counter
-  wire input 1 \clk
-  attribute \init 8'00000000
-  wire width 8 output 2 \q
-  wire width 8 $n
-  cell $add $a
-    parameter \A_SIGNED 0
-    parameter \A_WIDTH 8
-    parameter \B_SIGNED 0
-    parameter \B_WIDTH 1
-    parameter \Y_WIDTH 8
-    connect \A \q
-    connect \B 1'1
-    connect \Y $n
-  end
-  cell $dff $r
-    parameter \CLK_POLARITY 1'1
-    parameter \WIDTH 8
-    connect \CLK \clk
-    connect \D $n
-    connect \Q \q
-  end
-end
-"#;
+use test_designs::designs::COUNTER_AS_WRITTEN;
 
 /// Words, identifiers, numbers and signs as they are written, a constant as its width and a quote, a string as what it
 /// stands for between `<` and `>`, and a line's end as `;`.
@@ -211,6 +184,6 @@ fn the_tokens_of_a_counter_are_read(rt: HostRuntime) -> Result<(), Fail> {
         }
         want.push_str(line)?;
     }
-    assert_eq!(rt; told(rt.alloc(), COUNTER)?.as_str(), want.as_str());
+    assert_eq!(rt; told(rt.alloc(), COUNTER_AS_WRITTEN.as_bytes())?.as_str(), want.as_str());
     Ok(())
 }
