@@ -2,7 +2,7 @@
 //! one thing of it is changed it does not.
 use crate::parts::{Driver, Part, bits, cell, drive, flags, net, put, register, signal, value};
 use crate::whole::{check, read_port, whole, write_port};
-use circuit::{Mem, Op, RegKind};
+use circuit::{By, Mem, Op, Piece, RegKind, sig_width};
 use sqlite_items::Items;
 use std::alloc::AllocGlobal;
 use std::process::Abort;
@@ -14,6 +14,29 @@ fn a_net_has_at_most_65536_bits(rt: HostRuntime) {
         put(&rt, &mut circuit.nets, net(&rt, "\\wide", width));
         check(&rt, circuit, fits, width);
     }
+}
+
+#[test]
+fn a_signal_is_as_wide_as_its_pieces_together(rt: HostRuntime) {
+    let low = Piece::Part {
+        net: 2,
+        at: 3,
+        width: 9,
+    };
+    let high = Piece::Part {
+        net: 0,
+        at: 1,
+        width: 70,
+    };
+    assert_eq!(rt; low.width(), 9);
+    assert_eq!(rt; sig_width([low, high].as_slice()), 79);
+}
+
+#[test]
+fn a_driver_is_read_from_its_first_bit_that_is_taken(rt: HostRuntime) {
+    assert_eq!(rt; By::Const(value(&rt, 8, 5)).offset(), 0);
+    assert_eq!(rt; By::Reg(2, 7).offset(), 7);
+    assert_eq!(rt; By::Read(1, 3, 4).offset(), 4);
 }
 
 #[test]
