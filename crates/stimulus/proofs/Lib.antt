@@ -3,3 +3,4 @@ pub mod Columns
 pub mod Named
 pub mod Grown
 pub mod LineSteps
+pub mod Kept

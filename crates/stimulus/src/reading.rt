@@ -106,6 +106,7 @@ impl Reading {
 pub fn read(alloc: Global, text: &[u8], circuit: &Circuit) -> Result<Stimulus, StimFault>
     requires countable { length text.now < 4294967295 }
     ensures ok { IfOk result (λ s. course_of text.now circuit.now ≡ Ok s) }
+    ensures inputs { IfOk result (λ s. input_widths s ≡ map (width_of circuit.now) circuit.now.inputs) }
     ensures fault { IfErr result (λ fault. Fails fault (course_of text.now circuit.now)) }
 {
     let mut reading = Reading::Start;

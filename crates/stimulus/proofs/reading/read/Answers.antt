@@ -4,6 +4,7 @@ use Rattle.stimulus_text.specs.declared.fault.StimFault.{StimFault}
 use Rattle.stimulus_text.specs.declared.fault.StimFault.TheVariants.{At}
 use Rattle.stimulus.specs.Reading.{Fails, course_of}
 use Rattle.stimulus.proofs.LineSteps.{ends, fails_at, goes_on, stopped_fails}
+use Rattle.stimulus.proofs.Kept.{inputs_kept}
 use Rattle.stimulus.proofs.reading.read.Goals as goal
 
 pub returns-in-Err-clause-fault : goal.returns-in-Err-clause-fault
@@ -26,3 +27,8 @@ loop-line-preserved c = record {
 
 pub returns-in-Ok-end-clause-ok : goal.returns-in-Ok-end-clause-ok
 returns-in-Ok-end-clause-ok c = c.loop-line.invariant.read ∙ ends c.args.circuit.now c.loop-line.number c.loop-line.reading (lines_of c.loop-line.rest.now) (Ok c.in-Ok-end.stimulus) c.in_default.ensures.lines c.in-Ok-end.ensures
+
+pub returns-in-Ok-end-clause-inputs : goal.returns-in-Ok-end-clause-inputs
+returns-in-Ok-end-clause-inputs c =
+    inputs_kept c.args.circuit.now (lines_of c.args.text.now) c.in-Ok-end.stimulus
+    (c.loop-line.invariant.read ∙ ends c.args.circuit.now c.loop-line.number c.loop-line.reading (lines_of c.loop-line.rest.now) (Ok c.in-Ok-end.stimulus) c.in_default.ensures.lines c.in-Ok-end.ensures)
