@@ -184,6 +184,9 @@ fn the_tokens_of_a_counter_are_read(rt: HostRuntime) -> Result<(), Fail> {
         }
         want.push_str(line)?;
     }
-    assert_eq!(rt; told(rt.alloc(), COUNTER_AS_WRITTEN.as_bytes())?.as_str(), want.as_str());
+    assert_eq!(rt;
+        told(rt.alloc(), COUNTER_AS_WRITTEN.as_bytes())?.as_str(),
+        want.as_str()
+    );
     Ok(())
 }
