@@ -1,0 +1,5 @@
+mod Loops
+mod Cuts
+mod Folds
+mod Digits
+mod Driving

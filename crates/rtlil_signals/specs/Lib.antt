@@ -1,0 +1,5 @@
+pub mod Values
+pub mod Spans
+pub mod Slices
+pub mod Signals
+pub mod Drives
