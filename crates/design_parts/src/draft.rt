@@ -1,0 +1,98 @@
+//! The lists of a circuit as they grow.
+ghost use Rattle.std.specs.Prelude.{◌≡◌, ◌+◌, ◌<◌, ◌^◌, ◌++◌, ◌∷◌, [], OnOk, OnErr, length, sum_by};
+ghost use Rattle.circuit.specs.declared.netlist.Piece.{Piece};
+ghost use Rattle.design_parts.specs.Parts.{Made, none_made};
+ghost use Rattle.rtlil_signals.specs.Drives.{by_at, connected, driven_from};
+ghost use Rattle.rtlil_signals.specs.Spans.{pieces_of};
+ghost use Rattle.circuit.specs.Signal.{sig_width};
+
+use circuit::{Circuit, Net};
+use rtlil_signals::{Source, Span, connect, drive};
+use sim_base::NoMemory;
+use sqlite_items::Items;
+use std::alloc::Global;
+use std::marker::Model;
+
+/// The lists of a circuit as far as they are made, with totals that limits are on.
+#[derive(Debug, Drop)]
+pub struct Draft {
+    circuit: Circuit,
+    instances: u64,
+    /// The bits of all nets.
+    bits: u64,
+}
+
+impl Model for Draft {
+    ghost use Rattle.std.specs.Prelude.{◌≡◌, sum_by};
+    ghost use Rattle.design_parts.specs.Parts.{Made};
+
+    ghost Value = { Made };
+
+    ghost view = { λ d. record {
+        nets = d.circuit.nets; drives = d.circuit.drives; cells = d.circuit.cells; regs = d.circuit.regs; mems = d.circuit.mems;
+        inputs = d.circuit.inputs; items = d.circuit.items; scopes = d.circuit.scopes; diags = d.circuit.diags; instances = d.instances } };
+
+    ghost invariant = { λ d. d.bits ≡ sum_by (λ n. n.width) d.circuit.nets };
+}
+
+impl Draft {
+    pub fn new(alloc: Global) -> Draft
+        ensures { result ≡ none_made }
+    {
+        Draft {
+            circuit: Circuit {
+                nets: Items::new(alloc),
+                drives: Items::new(alloc),
+                cells: Items::new(alloc),
+                regs: Items::new(alloc),
+                mems: Items::new(alloc),
+                inputs: Items::new(alloc),
+                items: Items::new(alloc),
+                scopes: Items::new(alloc),
+                diags: Items::new(alloc),
+            },
+            instances: 0,
+            bits: 0,
+        }
+    }
+
+    /// How many nets there are.
+    pub fn net_count(&self) -> usize
+        ensures { result ≡ length self.now.nets }
+    {
+        self.circuit.nets.len()
+    }
+
+    /// How many bits all nets have.
+    pub fn bit_count(&self) -> u64
+        ensures { result ≡ sum_by (λ n. n.width) self.now.nets }
+    {
+        self.bits
+    }
+
+    /// Appends a net.
+    pub fn push_net(&mut self, net: Net) -> Result<(), NoMemory>
+        requires { sum_by (λ n. n.width) self.old.nets + net.width < 2 ^ 64 }
+        ensures { OnOk result (self.new ≡ (record self.old { nets = self.old.nets ++ net ∷ [] })) }
+    {
+        let width = net.width as u64;
+        self.circuit.nets.push(net)?;
+        self.bits += width;
+        Ok(())
+    }
+
+    /// Appends the drives of one signal by another one.
+    pub fn connect(&mut self, alloc: Global, left: &[Span], right: &[Span]) -> Result<(), NoMemory>
+        ensures { OnOk result (self.new ≡ (record self.old { drives = self.old.drives ++ connected (pieces_of left.now) (pieces_of right.now) })) }
+    {
+        connect(alloc, left, right, &mut self.circuit.drives)
+    }
+
+    /// Appends the drives of a signal by a source of as many bits.
+    pub fn drive(&mut self, left: &[Span], source: Source) -> Result<(), NoMemory>
+        requires { sig_width (pieces_of left.now) < 2 ^ 32 }
+        ensures { OnOk result (self.new ≡ (record self.old { drives = self.old.drives ++ driven_from (by_at source) 0 (pieces_of left.now) })) }
+    {
+        drive(left, source, &mut self.circuit.drives)
+    }
+}
