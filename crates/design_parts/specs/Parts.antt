@@ -7,6 +7,7 @@ use Rattle.circuit.specs.declared.fault.DesignKind.{DesignKind}
 use Rattle.circuit.specs.declared.item.Item.{Item}
 use Rattle.circuit.specs.declared.item.Scope.{Scope}
 use Rattle.circuit.specs.declared.memory.Mem.{Mem}
+use Rattle.circuit.specs.declared.netlist.Circuit.{Circuit}
 use Rattle.circuit.specs.declared.netlist.Drive.{Drive}
 use Rattle.circuit.specs.declared.netlist.Net.{Net}
 use Rattle.circuit.specs.declared.register.Reg.{Reg}
@@ -64,6 +65,10 @@ both_made m n = record {
   diags = m.diags ++ n.diags;
   instances = m.instances + n.instances;
 }
+
+-- the lists as those of a circuit
+abbrev pub circuit_of : Made → Circuit
+circuit_of m = record { nets = m.nets; drives = m.drives; cells = m.cells; regs = m.regs; mems = m.mems; inputs = m.inputs; items = m.items; scopes = m.scopes; diags = m.diags }
 
 -- what a part of a design gives
 pub record Part : Type 0 where
@@ -136,7 +141,3 @@ Says (At g) f = g ≡ f
 -- one part behind another is run as the first, and then the second from what the first left
 abbrev pub RunInOrder : Walk → Walk → Made → Type 0
 RunInOrder p q so_far = run (p >> q) so_far ≡ bind (run p so_far) (run q)
-
--- a walk in which the first fault is that of its checks, and else what it made stands behind what was there
-abbrev pub Gives : Walk → Made → Type 0
-Gives p so_far = run p so_far ≡ judged (first_fault (p so_far).checks) (both_made so_far (p so_far).made)

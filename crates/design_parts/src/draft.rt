@@ -1,12 +1,11 @@
 //! The lists of a circuit as they grow.
-ghost use Rattle.std.specs.Prelude.{◌≡◌, ◌+◌, ◌<◌, ◌^◌, ◌++◌, ◌∷◌, [], OnOk, OnErr, length, sum_by};
-ghost use Rattle.circuit.specs.declared.netlist.Piece.{Piece};
-ghost use Rattle.design_parts.specs.Parts.{Made, none_made};
+ghost use Rattle.std.specs.Prelude.{◌≡◌, ◌+◌, ◌<◌, ◌^◌, ◌++◌, ◌∷◌, [], OnOk, length, sum_by};
+ghost use Rattle.design_parts.specs.Parts.{circuit_of, none_made};
 ghost use Rattle.rtlil_signals.specs.Drives.{by_at, connected, driven_from};
 ghost use Rattle.rtlil_signals.specs.Spans.{pieces_of};
 ghost use Rattle.circuit.specs.Signal.{sig_width};
 
-use circuit::{Circuit, Net};
+use circuit::{Circuit, Item, Net};
 use rtlil_signals::{Source, Span, connect, drive};
 use sim_base::NoMemory;
 use sqlite_items::Items;
@@ -81,6 +80,14 @@ impl Draft {
         Ok(())
     }
 
+    /// Appends an item.
+    pub fn push_item(&mut self, item: Item) -> Result<(), NoMemory>
+        ensures { OnOk result (self.new ≡ (record self.old { items = self.old.items ++ item ∷ [] })) }
+    {
+        self.circuit.items.push(item)?;
+        Ok(())
+    }
+
     /// Appends the drives of one signal by another one.
     pub fn connect(&mut self, alloc: Global, left: &[Span], right: &[Span]) -> Result<(), NoMemory>
         ensures { OnOk result (self.new ≡ (record self.old { drives = self.old.drives ++ connected (pieces_of left.now) (pieces_of right.now) })) }
@@ -94,5 +101,12 @@ impl Draft {
         ensures { OnOk result (self.new ≡ (record self.old { drives = self.old.drives ++ driven_from (by_at source) 0 (pieces_of left.now) })) }
     {
         drive(left, source, &mut self.circuit.drives)
+    }
+
+    /// The lists, and nothing of the number of instances.
+    pub fn into_circuit(self) -> Circuit
+        ensures { result ≡ circuit_of self }
+    {
+        self.circuit
     }
 }

@@ -4,14 +4,14 @@ use Rattle.std.proofs.lemmas.Nat.{shr-shr, mod-pow-add, div-mul-add, pow_pos, mo
 use Rattle.std.proofs.Math.Pow.{mod-mod-pow}
 use Rattle.std.proofs.lemmas.Bool.Decides.{nat_tests}
 use Rattle.circuit.specs.declared.netlist.Piece.{Piece}
-use Rattle.circuit.specs.Signal.{piece_width, sig_width}
+use Rattle.circuit.specs.Signal.{piece_part, piece_width, sig_part, sig_width}
 use Rattle.rtlil_tree.specs.declared.sig.Slice.{Slice}
 use Rattle.rtlil_signals.specs.declared.slice.Range.{Range}
 use Rattle.rtlil_signals.specs.Slices.{chosen}
 use Rattle.rtlil_signals.specs.Signals.{cut, sliced}
 use Rattle.sim_base.specs.BitValue.{BitValue, bit_value}
 use Rattle.circuit.specs.declared.netlist.Piece.TheVariants as piece
-use Rattle.rtlil_signals.specs.Spans.{value_part, piece_part, sig_part, some_part, piece_of, pieces_of}
+use Rattle.rtlil_signals.specs.Spans.{value_part, some_part, piece_of, pieces_of}
 use Rattle.rtlil_signals.specs.declared.span.Span.{Span}
 use Rattle.rtlil_signals.proofs.Loops.{drop_item}
 
@@ -36,15 +36,23 @@ cut_again v from all at width le =
     let long : from + at + width - (from + at) ≡ width = omega arith in
     ap (λ w. piece.Const (value_part v (from + at) w)) long ∙ ap (λ n. piece.Const (bit_value width n)) (sym (cut_twice v.number from all at width le))
 
+-- what a piece gives, and the rest
+pub part_cons : (at width : ℕ) (p : Piece) (ps : List Piece) → sig_part at width (p ∷ ps) ≡ some_part at (min (piece_width p - at) width) p ++ sig_part (at - piece_width p) (width - min (piece_width p - at) width) ps
+unfolding sig_part
+part_cons at width p ps =
+    let taken = min (piece_width p - at) width in
+    let rest = sig_part (at - piece_width p) (width - taken) ps in
+    elim (nat_eq taken 0) as (λ b. cond b rest (piece_part at taken p ∷ rest) ≡ cond b [] (piece_part at taken p ∷ []) ++ rest) [ true ↦ refl | false ↦ refl ]
+
 -- a loop over the parts of a signal: what the one at hand gives, and the rest
 pub part_more : (at width : ℕ) (all : List Span) (i : ℕ) (s : Span) (found next : List Piece) → i < length all → s ≡ get_or all i s
     → next ≡ found ++ some_part at (min (piece_width (piece_of s) - at) width) (piece_of s)
     → found ++ sig_part at width (pieces_of (drop i all)) ≡ next ++ sig_part (at - piece_width (piece_of s)) (width - min (piece_width (piece_of s) - at) width) (pieces_of (drop (i + 1) all))
-unfolding sig_part
 part_more at width all i s found next below here is =
     let p = piece_of s in
     let rest = sig_part (at - piece_width p) (width - min (piece_width p - at) width) (pieces_of (drop (i + 1) all)) in
     ap (λ ss. found ++ sig_part at width (pieces_of ss)) (drop_item all i s below here)
+    ∙ ap (λ ps. found ++ ps) (part_cons at width p (pieces_of (drop (i + 1) all)))
     ∙ sym (append_assoc found (some_part at (min (piece_width p - at) width) p) rest)
     ∙ ap (λ n. n ++ rest) (sym is)
 

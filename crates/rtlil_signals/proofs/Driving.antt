@@ -7,10 +7,11 @@ use Rattle.circuit.specs.declared.netlist.By.{By}
 use Rattle.circuit.specs.declared.netlist.Drive.{Drive}
 use Rattle.circuit.specs.declared.netlist.Piece.{Piece}
 use Rattle.circuit.specs.declared.netlist.Piece.TheVariants as piece
-use Rattle.circuit.specs.Signal.{piece_width, sig_width}
+use Rattle.circuit.specs.Signal.{piece_part, piece_width, sig_part, sig_width}
 use Rattle.rtlil_signals.specs.Drives.{by_of, connected_from, driven, driven_from, onto}
-use Rattle.rtlil_signals.specs.Spans.{piece_of, pieces_of, piece_part, sig_part, some_part}
+use Rattle.rtlil_signals.specs.Spans.{piece_of, pieces_of, some_part}
 use Rattle.rtlil_signals.specs.declared.span.Span.{Span}
+use Rattle.rtlil_signals.proofs.Cuts.{part_cons}
 use Rattle.rtlil_signals.proofs.Loops.{drop_item}
 
 -- ---- widths
@@ -48,7 +49,7 @@ part_width at width [] = omega arith
 part_width at width (p ∷ ps) =
     let taken = min (piece_width p - at) width in
     let few : taken ≤ width = omega arith in
-    omega (arith, sum_by-append piece_width (some_part at taken p) (sig_part (at - piece_width p) (width - taken) ps), some_width at taken p, part_width (at - piece_width p) (width - taken) ps)
+    omega (arith, ap sig_width (part_cons at width p ps), sum_by-append piece_width (some_part at taken p) (sig_part (at - piece_width p) (width - taken) ps), some_width at taken p, part_width (at - piece_width p) (width - taken) ps)
 
 -- ---- a place in a signal
 
@@ -65,7 +66,8 @@ skip_parts (suc k) skipped width (s ∷ ss) =
     let gone : min (piece_width p - total) width ≡ 0 = omega (arith, cons) in
     let begin : total - piece_width p ≡ before + skipped = omega (arith, cons) in
     let all_left : width - 0 ≡ width = omega arith in
-    ap (λ t. some_part total t p ++ sig_part (total - piece_width p) (width - t) (pieces_of ss)) gone
+    part_cons total width p (pieces_of ss)
+    ∙ ap (λ t. some_part total t p ++ sig_part (total - piece_width p) (width - t) (pieces_of ss)) gone
     ∙ ap (λ a. sig_part a (width - 0) (pieces_of ss)) begin
     ∙ ap (λ w. sig_part (before + skipped) w (pieces_of ss)) all_left
     ∙ skip_parts k skipped width ss

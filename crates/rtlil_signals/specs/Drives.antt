@@ -5,8 +5,8 @@ use Rattle.circuit.specs.declared.netlist.By.TheVariants as by
 use Rattle.circuit.specs.declared.netlist.Drive.{Drive}
 use Rattle.circuit.specs.declared.netlist.Piece.{Piece}
 use Rattle.circuit.specs.declared.netlist.Piece.TheVariants as piece
-use Rattle.circuit.specs.Signal.{piece_width, sig_width}
-use Rattle.rtlil_signals.specs.Spans.{pieces_of, sig_part}
+use Rattle.circuit.specs.Signal.{piece_width, sig_part, sig_width}
+use Rattle.rtlil_signals.specs.Spans.{pieces_of}
 use Rattle.rtlil_signals.specs.declared.drives.Source.{Source}
 use Rattle.rtlil_signals.specs.declared.drives.Source.TheVariants as source
 use Rattle.rtlil_signals.specs.declared.drives.Position.{Position}

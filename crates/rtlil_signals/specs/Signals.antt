@@ -6,13 +6,13 @@ use Rattle.std.specs.Option.{is_some}
 use Rattle.sim_base.specs.BitValue.{BitValue}
 use Rattle.circuit.specs.declared.netlist.Piece.{Piece}
 use Rattle.circuit.specs.declared.netlist.Piece.TheVariants as piece
-use Rattle.circuit.specs.Signal.{piece_width, sig_width}
+use Rattle.circuit.specs.Signal.{piece_width, sig_part, sig_width}
 use Rattle.rtlil_tree.specs.declared.sig.Sig.{Sig}
 use Rattle.rtlil_tree.specs.declared.sig.Slice.{Slice}
 use Rattle.rtlil_tree.specs.declared.sig.SigPart.{SigPart}
 use Rattle.rtlil_tree.specs.declared.sig.SigPart.TheOpen.{Sig-F, SigPart-F}
 use Rattle.rtlil_tree.specs.declared.sig.SigPart.TheFolds.{fold-Sig, fold-SigPart}
-use Rattle.rtlil_signals.specs.Spans.{sig_part, some_part}
+use Rattle.rtlil_signals.specs.Spans.{some_part}
 use Rattle.rtlil_signals.specs.Slices.{chosen}
 use Rattle.rtlil_signals.specs.Values.{const_value}
 use Rattle.rtlil_signals.specs.declared.scope.NamedNet.{NamedNet}

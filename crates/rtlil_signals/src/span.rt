@@ -2,8 +2,8 @@
 ghost use Rattle.std.specs.Prelude.{◌≡◌, ◌≤◌, ◌+◌, ◌-◌, ◌^◌, ◌++◌, IfOk, OnOk};
 ghost use Rattle.circuit.specs.declared.netlist.Piece.TheVariants as piece;
 ghost use Rattle.rtlil_signals.specs.Values.{const_value};
-ghost use Rattle.circuit.specs.Signal.{piece_width, sig_width};
-ghost use Rattle.rtlil_signals.specs.Spans.{piece_of, piece_part, pieces_of, sig_part, some_part, value_part};
+ghost use Rattle.circuit.specs.Signal.{piece_part, piece_width, sig_part, sig_width};
+ghost use Rattle.rtlil_signals.specs.Spans.{piece_of, pieces_of, some_part, value_part};
 
 use rtlil_tree::Const;
 use sim_base::NoMemory;

@@ -1,9 +1,9 @@
 use Rattle.std.proofs.Common.{◌≡◌, ◌≤◌, ◌++◌, ap, sym, subst, ◌∙◌, arith, append-nil, drop, take, length, ◌+◌, ◌-◌, ℕ}
 use Rattle.std.proofs.lemmas.List.{take_rest}
 use Rattle.std.proofs.lemmas.List.{at_drop_all}
-use Rattle.circuit.specs.Signal.{sig_width}
+use Rattle.circuit.specs.Signal.{sig_part, sig_width}
 use Rattle.rtlil_signals.specs.Drives.{bit_of, connected_from}
-use Rattle.rtlil_signals.specs.Spans.{pieces_of, sig_part}
+use Rattle.rtlil_signals.specs.Spans.{pieces_of}
 use Rattle.rtlil_signals.proofs.Driving.{connected_more, connected_none, part_width, skip_parts}
 use Rattle.rtlil_signals.proofs.drives.connect.Goals as goal
 

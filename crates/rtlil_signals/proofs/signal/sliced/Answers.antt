@@ -1,10 +1,10 @@
 use Rattle.std.proofs.Common.{◌≡◌, ◌∙◌, Some, [], arith, false, true, List, Option, ap, sym}
 use Rattle.std.proofs.lemmas.Grind.{common_steps}
-use Rattle.circuit.specs.Signal.{sig_width}
+use Rattle.circuit.specs.Signal.{sig_part, sig_width}
 use Rattle.circuit.specs.declared.netlist.Piece.{Piece}
 use Rattle.rtlil_signals.specs.Signals.{cut}
 use Rattle.rtlil_signals.specs.Slices.{chosen}
-use Rattle.rtlil_signals.specs.Spans.{pieces_of, sig_part}
+use Rattle.rtlil_signals.specs.Spans.{pieces_of}
 use Rattle.rtlil_signals.proofs.Cuts.{sliced_by}
 use Rattle.rtlil_signals.proofs.signal.sliced.Goals as goal
 

@@ -1,7 +1,7 @@
 use Rattle.std.proofs.Common.{◌≡◌, ◌++◌, ◌-◌, ◌+◌, drop, min, [], ap, sym, ◌∙◌, append-nil}
 use Rattle.std.proofs.lemmas.List.{at_drop_all}
-use Rattle.rtlil_signals.specs.Spans.{piece_of, pieces_of, sig_part, some_part}
-use Rattle.circuit.specs.Signal.{piece_width}
+use Rattle.rtlil_signals.specs.Spans.{piece_of, pieces_of, some_part}
+use Rattle.circuit.specs.Signal.{piece_width, sig_part}
 use Rattle.rtlil_signals.proofs.Cuts.{part_more, part_end}
 use Rattle.rtlil_signals.proofs.span.part_of.Goals as goal
 

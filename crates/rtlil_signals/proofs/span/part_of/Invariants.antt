@@ -1,5 +1,6 @@
 use Rattle.std.proofs.Common.{◌≡◌, ◌++◌, drop}
-use Rattle.rtlil_signals.specs.Spans.{pieces_of, sig_part}
+use Rattle.rtlil_signals.specs.Spans.{pieces_of}
+use Rattle.circuit.specs.Signal.{sig_part}
 use Rattle.rtlil_signals.proofs.span.part_of.Given as goal
 
 abbrev pub invariant-loop-span : goal.invariant-loop-span
