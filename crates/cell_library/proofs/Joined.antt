@@ -38,6 +38,6 @@ are_joined l settings cs i c e at =
     let widths : first_fault (width_checks settings l.ports cs) ≡ None =
     first (width_checks settings l.ports cs) (limit_checks settings widest kind.TooWide l.ports ++ limits_of l settings)
     (second (port_checks l.ports cs) (behind_ports l settings cs) ports) in
-    joined settings (port_named l.ports c.port.now) c.width
-    (each_holds (λ y. is_some (port_named l.ports y.port.now)) kind.UnknownName cs i c (first (port_checks l.ports cs) (behind_ports l settings cs) ports) at)
-    (each_holds (λ y. fits settings (port_named l.ports y.port.now) y.width) kind.Width cs i c widths at)
+    joined settings (port_named l.ports c.port) c.width
+    (each_holds (λ y. is_some (port_named l.ports y.port)) kind.UnknownName cs i c (first (port_checks l.ports cs) (behind_ports l settings cs) ports) at)
+    (each_holds (λ y. fits settings (port_named l.ports y.port) y.width) kind.Width cs i c widths at)

@@ -53,7 +53,7 @@ abbrev pub port_named : List Port → List ℕ → Option Port
 port_named ports name = find (λ p. bytes_eq (port_name p.name) name) ports
 
 abbrev pub port_check : List Port → Connection → Check
-port_check ports c = check (is_some (port_named ports c.port.now)) kind.UnknownName
+port_check ports c = check (is_some (port_named ports c.port)) kind.UnknownName
 
 abbrev pub port_checks : List Port → List Connection → List Check
 port_checks ports cs = map (port_check ports) cs
@@ -63,7 +63,7 @@ fits settings None width = true
 fits settings (Some p) width = span_width settings p.span == width
 
 abbrev pub width_check : List Setting → List Port → Connection → Check
-width_check settings ports c = check (fits settings (port_named ports c.port.now) c.width) kind.Width
+width_check settings ports c = check (fits settings (port_named ports c.port) c.width) kind.Width
 
 abbrev pub width_checks : List Setting → List Port → List Connection → List Check
 width_checks settings ports cs = map (width_check settings ports) cs

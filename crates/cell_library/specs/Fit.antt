@@ -92,4 +92,4 @@ AreFitting = (name : List ℕ) (l : TypeLine) → line_of name ≡ Some l → Fi
 -- each port of a cell that passes its checks is joined to as many bits as its type has there
 abbrev pub AreJoined : Type 0
 AreJoined = (l : TypeLine) (settings : List Setting) (cs : List Connection) (i : ℕ) (c : Connection) → first_fault (line_checks l settings cs) ≡ None
-    → slice_get cs i ≡ Some c → (x : Port) × (port_named l.ports c.port.now ≡ Some x) × (c.width ≡ span_width settings x.span)
+    → slice_get cs i ≡ Some c → (x : Port) × (port_named l.ports c.port ≡ Some x) × (c.width ≡ span_width settings x.span)

@@ -13,10 +13,10 @@ use crate::written::{Connection, Setting};
 use circuit::{DesignKind, Op};
 
 /// The most bits of a port.
-const WIDEST: u32 = 65536;
+pub const WIDEST: u32 = 65536;
 
 /// The most bits of a port of an arithmetic type.
-const WIDEST_ARITHMETIC: u32 = 128;
+pub const WIDEST_ARITHMETIC: u32 = 128;
 
 /// The line of a cell's type, or what is wrong with the cell, the first of: its type is unknown; a parameter of
 /// its type is not given, or has a number that it may not have, or a `$slice` takes bits beyond its operand; a
@@ -65,7 +65,7 @@ fn line_passes(
 }
 
 /// Each parameter of the type is given a number that it may have.
-fn parameters_pass(settings: &[Setting], parameters: &[Parameter]) -> Result<(), DesignKind>
+pub fn parameters_pass(settings: &[Setting], parameters: &[Parameter]) -> Result<(), DesignKind>
     ensures { Passes (parameter_checks settings.now parameters.now) result }
 {
     for parameter in parameters {
@@ -78,7 +78,7 @@ fn parameters_pass(settings: &[Setting], parameters: &[Parameter]) -> Result<(),
 
 /// A slice stays inside its operand.
 #[tactic(auto, unfolding(crate::specs::Checks::line_checks))]
-fn slice_passes(gives: Gives, settings: &[Setting]) -> Result<(), DesignKind>
+pub fn slice_passes(gives: Gives, settings: &[Setting]) -> Result<(), DesignKind>
     ensures { Passes (slice_checks gives settings.now) result }
 {
     if gives != Gives::Cell(Op::Slice) {
@@ -105,11 +105,11 @@ pub fn port_named(ports: &[Port], name: &[u8]) -> Option<Port>
 }
 
 /// Each port that is joined is one of the type.
-fn ports_pass(ports: &[Port], connections: &[Connection]) -> Result<(), DesignKind>
+pub fn ports_pass(ports: &[Port], connections: &[Connection]) -> Result<(), DesignKind>
     ensures { Passes (port_checks ports.now connections.now) result }
 {
     for connection in connections {
-        if port_named(ports, connection.port).is_none() {
+        if port_named(ports, connection.port.as_bytes()).is_none() {
             return Err(DesignKind::UnknownName);
         }
     }
@@ -129,7 +129,7 @@ fn fits(settings: &[Setting], port: Option<Port>, width: u64) -> bool
 }
 
 /// Each port is joined to as many bits as it has.
-fn widths_pass(
+pub fn widths_pass(
     settings: &[Setting],
     ports: &[Port],
     connections: &[Connection],
@@ -137,7 +137,7 @@ fn widths_pass(
     ensures { Passes (width_checks settings.now ports.now connections.now) result }
 {
     for connection in connections {
-        let port = port_named(ports, connection.port);
+        let port = port_named(ports, connection.port.as_bytes());
         if !fits(settings, port, connection.width) {
             return Err(DesignKind::Width);
         }
@@ -155,7 +155,7 @@ fn within(settings: &[Setting], most: u32, port: Port) -> bool
 }
 
 /// No port has more bits than `most`.
-fn limits_pass(
+pub fn limits_pass(
     settings: &[Setting],
     most: u32,
     kind: DesignKind,

@@ -12,7 +12,10 @@ mod tests;
 mod values;
 mod written;
 
-pub use checks::{check_cell, port_named, port_width};
+pub use checks::{
+    WIDEST, WIDEST_ARITHMETIC, check_cell, limits_pass, parameters_pass, port_named, port_width,
+    ports_pass, slice_passes, widths_pass,
+};
 pub use laws::{law_of_connections, law_of_examples, law_of_table, law_of_types, law_of_widths};
 pub use line::{Gives, Line, Parameter, Port, PortName, Range, Span, Way};
 pub use table::line_of;

@@ -10,7 +10,8 @@ pub enum Gives {
     Register(RegKind),
 }
 
-/// A parameter of a type. A type that has a parameter must be given it.
+/// A parameter of a type. A type that has a parameter must be given it, but for `\A_SIGNED` and `\B_SIGNED`, which are
+/// not set where they are not given.
 #[derive(Clone, Copy, Debug, PartialEq, Eq)]
 pub enum Parameter {
     ASigned,

@@ -4,6 +4,7 @@ use crate::line::{Gives, PortName, Span, Way};
 use crate::table::line_of;
 use crate::written::{Connection, Setting};
 use circuit::{DesignKind, Op, RegKind};
+use rtlil_lexer::Spelling;
 use std::test::Fail;
 
 /// A type, what it becomes, how many parameters and ports it has, and whether it is arithmetic.
@@ -49,11 +50,17 @@ fn ports_have_ways_and_widths(rt: HostRuntime) -> Result<(), Fail> {
 }
 
 fn setting(name: &[u8], value: u64) -> Setting {
-    Setting { name, value }
+    Setting {
+        name: Spelling::of(name),
+        value,
+    }
 }
 
 fn connection(port: &[u8], width: u64) -> Connection {
-    Connection { port, width }
+    Connection {
+        port: Spelling::of(port),
+        width,
+    }
 }
 
 /// What is wrong with a `$pmux` of 8 bits and 3 parts whose `B` and one more port are joined.
@@ -91,6 +98,16 @@ fn fault_of_129_bits(name: &[u8]) -> Option<DesignKind> {
     check_cell(name, &settings, &[]).err()
 }
 
+/// What is wrong with an `$add` of which no sign is given.
+fn fault_without_signs() -> Option<DesignKind> {
+    let settings = [
+        setting(b"\\A_WIDTH", 8),
+        setting(b"\\B_WIDTH", 1),
+        setting(b"\\Y_WIDTH", 8),
+    ];
+    check_cell(b"$add", &settings, &[]).err()
+}
+
 #[test]
 fn the_first_fault_of_a_cell_is_found(rt: HostRuntime) {
     assert_eq!(rt; fault_of_pmux(24, b"\\Y", 8), None);
@@ -106,6 +123,7 @@ fn the_first_fault_of_a_cell_is_found(rt: HostRuntime) {
     assert_eq!(rt; fault_of_slice(3), None);
     assert_eq!(rt; fault_of_slice(4), Some(DesignKind::BadParameter));
     assert_eq!(rt; fault_of_129_bits(b"$and"), None);
+    assert_eq!(rt; fault_without_signs(), None);
     assert_eq!(rt; fault_of_129_bits(b"$add"), Some(DesignKind::ArithTooWide));
 }
 

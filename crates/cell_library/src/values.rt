@@ -1,6 +1,6 @@
 //! The numbers that a cell gives the parameters of its type, and the widths that they make.
 ghost use Rattle.std.specs.Prelude.{◌≡◌, ◌^◌, ◌*◌};
-ghost use Rattle.cell_library.specs.Values.{exact, given, in_range, number, span_width};
+ghost use Rattle.cell_library.specs.Values.{exact, given, in_range, is_sign, number, span_width};
 
 use crate::line::{Parameter, Range, Span};
 use crate::written::Setting;
@@ -11,7 +11,7 @@ pub fn given(settings: &[Setting], parameter: Parameter) -> Option<u64>
 {
     let name = parameter.name();
     for setting in settings {
-        if setting.name == name {
+        if setting.name.as_bytes() == name {
             return Some(setting.value);
         }
     }
@@ -25,12 +25,19 @@ pub fn number(settings: &[Setting], parameter: Parameter) -> u64
     given(settings, parameter).unwrap_or(0)
 }
 
-/// Whether a parameter is given a number that it may have.
+/// Whether an operand is signed, which it is not where nothing is given.
+fn is_sign(parameter: Parameter) -> bool
+    ensures { result ≡ is_sign parameter }
+{
+    parameter == Parameter::ASigned || parameter == Parameter::BSigned
+}
+
+/// Whether a parameter is given a number that it may have. A sign need not be given.
 pub fn in_range(settings: &[Setting], parameter: Parameter) -> bool
     ensures { result ≡ in_range parameter (given settings.now parameter) }
 {
     match given(settings, parameter) {
-        None => false,
+        None => is_sign(parameter),
         Some(value) => parameter.range() != Range::Size || value < 0x8000_0000,
     }
 }

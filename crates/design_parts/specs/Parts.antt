@@ -1,5 +1,5 @@
 -- What the parts of a design give, one behind the other: checks, and lists of a circuit.
-use Rattle.std.specs.Prelude.{◌≡◌, ℕ, ◌+◌, List, [], ◌∷◌, ◌++◌, Bool, Option, Some, None, Result, Ok, Err, if◌then◌else◌}
+use Rattle.std.specs.Prelude.{◌≡◌, ℕ, ◌+◌, List, [], ◌∷◌, ◌++◌, length, Bool, Option, Some, None, Result, Ok, Err, if◌then◌else◌}
 use Rattle.circuit.specs.declared.cell.Cell.{Cell}
 use Rattle.circuit.specs.declared.diagnostic.Diag.{Diag}
 use Rattle.circuit.specs.declared.fault.DesignFault.{DesignFault}
@@ -65,6 +65,10 @@ both_made m n = record {
   diags = m.diags ++ n.diags;
   instances = m.instances + n.instances;
 }
+
+-- how many cells, registers, memories, diagnostics and instances there are
+abbrev pub part_count : Made → ℕ
+part_count m = length m.cells + length m.regs + length m.mems + length m.diags + m.instances
 
 -- the lists as those of a circuit
 abbrev pub circuit_of : Made → Circuit

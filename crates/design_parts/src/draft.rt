@@ -1,11 +1,11 @@
 //! The lists of a circuit as they grow.
 ghost use Rattle.std.specs.Prelude.{◌≡◌, ◌+◌, ◌<◌, ◌^◌, ◌++◌, ◌∷◌, [], OnOk, length, sum_by};
-ghost use Rattle.design_parts.specs.Parts.{circuit_of, none_made};
+ghost use Rattle.design_parts.specs.Parts.{circuit_of, none_made, part_count};
 ghost use Rattle.rtlil_signals.specs.Drives.{by_at, connected, driven_from};
 ghost use Rattle.rtlil_signals.specs.Spans.{pieces_of};
 ghost use Rattle.circuit.specs.Signal.{sig_width};
 
-use circuit::{Circuit, Item, Net};
+use circuit::{Cell, Circuit, Item, Net, Reg};
 use rtlil_signals::{Source, Span, connect, drive};
 use sim_base::NoMemory;
 use sqlite_items::Items;
@@ -28,8 +28,17 @@ impl Model for Draft {
     ghost Value = { Made };
 
     ghost view = { λ d. record {
-        nets = d.circuit.nets; drives = d.circuit.drives; cells = d.circuit.cells; regs = d.circuit.regs; mems = d.circuit.mems;
-        inputs = d.circuit.inputs; items = d.circuit.items; scopes = d.circuit.scopes; diags = d.circuit.diags; instances = d.instances } };
+      nets = d.circuit.nets;
+      drives = d.circuit.drives;
+      cells = d.circuit.cells;
+      regs = d.circuit.regs;
+      mems = d.circuit.mems;
+      inputs = d.circuit.inputs;
+      items = d.circuit.items;
+      scopes = d.circuit.scopes;
+      diags = d.circuit.diags;
+      instances = d.instances;
+    } };
 
     ghost invariant = { λ d. d.bits ≡ sum_by (λ n. n.width) d.circuit.nets };
 }
@@ -67,6 +76,47 @@ impl Draft {
         ensures { result ≡ sum_by (λ n. n.width) self.now.nets }
     {
         self.bits
+    }
+
+    /// How many cells, registers, memories, diagnostics and instances there are together.
+    pub fn part_count(&self) -> u128
+        ensures { result ≡ part_count self.now }
+    {
+        self.circuit.cells.len() as u128
+            + self.circuit.regs.len() as u128
+            + self.circuit.mems.len() as u128
+            + self.circuit.diags.len() as u128
+            + self.instances as u128
+    }
+
+    /// How many cells there are.
+    pub fn cell_count(&self) -> usize
+        ensures { result ≡ length self.now.cells }
+    {
+        self.circuit.cells.len()
+    }
+
+    /// How many registers there are.
+    pub fn register_count(&self) -> usize
+        ensures { result ≡ length self.now.regs }
+    {
+        self.circuit.regs.len()
+    }
+
+    /// Appends a cell.
+    pub fn push_cell(&mut self, cell: Cell) -> Result<(), NoMemory>
+        ensures { OnOk result (self.new ≡ (record self.old { cells = self.old.cells ++ cell ∷ [] })) }
+    {
+        self.circuit.cells.push(cell)?;
+        Ok(())
+    }
+
+    /// Appends a register.
+    pub fn push_register(&mut self, register: Reg) -> Result<(), NoMemory>
+        ensures { OnOk result (self.new ≡ (record self.old { regs = self.old.regs ++ register ∷ [] })) }
+    {
+        self.circuit.regs.push(register)?;
+        Ok(())
     }
 
     /// Appends a net.

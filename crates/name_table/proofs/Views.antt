@@ -1,5 +1,5 @@
 -- A table's pairs as its map has them.
-use Rattle.std.proofs.Common.{◌≡◌, Bool, true, false, cond, List, [], ◌∷◌, ◌++◌, map, Some, None, refl, ap}
+use Rattle.std.proofs.Common.{◌≡◌, Bool, true, false, cond, List, [], ◌∷◌, ◌++◌, map, Some, refl, ap}
 use Rattle.std.specs.Map.{lookup}
 
 pub lookup_in_view : {K L X : Type 0} (key : K → L) (test : L → Bool) (xs : List (K × X)) → lookup test (map (λ e. (key e.0, e.1)) xs) ≡ lookup (λ k. test (key k)) xs

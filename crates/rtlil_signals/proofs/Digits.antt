@@ -27,15 +27,15 @@ part_above n at width j le = bit_at_above (n / 2 ^ at % 2 ^ width) width j (mod_
 -- as many bits as are there
 pub copied_part : (n k at width from there new : ℕ) → n < 2 ^ k → from ≡ min at k → there ≡ min (k - from) width → ((j : ℕ) → bit_at new j ≡ digit_after_copy 0 n from there 0 j) → new ≡ n / 2 ^ at % 2 ^ width
 copied_part n k at width from there new below is some bits = same_from_bits new (n / 2 ^ at % 2 ^ width) (λ j. elim (cases_lt j there) [
-    | inl lt ↦
-        (let inside : j < width = omega arith in
-        let begin : from + j ≡ at + j = omega arith in
-        bits j ∙ copied n from there j lt ∙ ap (bit_at n) begin ∙ sym (part_bit n at width j inside))
-    | inr le ↦ bits j ∙ uncopied n from there j le ∙ sym (elim (cases_lt j width) [
-      | inl lt ↦ (let out : k ≤ at + j = omega arith in part_bit n at width j lt ∙ bit_at_above n k (at + j) below out)
-      | inr out ↦ part_above n at width j out
-    ])
+  | inl lt ↦
+      (let inside : j < width = omega arith in
+      let begin : from + j ≡ at + j = omega arith in
+      bits j ∙ copied n from there j lt ∙ ap (bit_at n) begin ∙ sym (part_bit n at width j inside))
+  | inr le ↦ bits j ∙ uncopied n from there j le ∙ sym (elim (cases_lt j width) [
+    | inl lt ↦ (let out : k ≤ at + j = omega arith in part_bit n at width j lt ∙ bit_at_above n k (at + j) below out)
+    | inr out ↦ part_above n at width j out
   ])
+])
 
 -- ---- bytes
 
@@ -51,14 +51,14 @@ above_byte b old at j le = grind (arith, nat_tests)
 -- a byte that is written above a number
 pub byte_above : (b old at new : ℕ) → b < 2 ^ 8 → old < 2 ^ at → ((j : ℕ) → bit_at new j ≡ digit_after_copy at b 0 8 old j) → new ≡ b * 2 ^ at + old
 byte_above b old at new small below bits = same_from_bits new (b * 2 ^ at + old) (λ j. elim (cases_lt j at) [
-    | inl lt ↦ bits j ∙ below_byte b old at j lt ∙ sym (bit_at_cat_low b at old j lt)
-    | inr le ↦ elim (cases_lt j (at + 8)) [
-      | inl lt ↦ bits j ∙ in_byte b old at j le lt ∙ sym (bit_at_cat_high b at old j below le)
-      | inr out ↦
-          (let far : 8 ≤ j - at = omega arith in
-          bits j ∙ above_byte b old at j out ∙ bit_at_above old at j below le ∙ sym (bit_at_cat_high b at old j below le ∙ bit_at_above b 8 (j - at) small far))
-    ]
-  ])
+  | inl lt ↦ bits j ∙ below_byte b old at j lt ∙ sym (bit_at_cat_low b at old j lt)
+  | inr le ↦ elim (cases_lt j (at + 8)) [
+    | inl lt ↦ bits j ∙ in_byte b old at j le lt ∙ sym (bit_at_cat_high b at old j below le)
+    | inr out ↦
+        (let far : 8 ≤ j - at = omega arith in
+        bits j ∙ above_byte b old at j out ∙ bit_at_above old at j below le ∙ sym (bit_at_cat_high b at old j below le ∙ bit_at_above b 8 (j - at) small far))
+  ]
+])
 
 pub bytes_none : (bytes : List ℕ) → 0 ≡ bytes_number (drop (length bytes - 0) bytes)
 unfolding bytes_number

@@ -29,7 +29,7 @@ pieces_both (x ∷ xs) ys = ap (λ ps. piece_of x ∷ ps) (pieces_both xs ys)
 pub width_taken : (all : List Span) (i : ℕ) (s : Span) → i < length all → s ≡ get_or all i s → sig_width (pieces_of (take (i + 1) all)) ≡ sig_width (pieces_of (take i all)) + piece_width (piece_of s)
 width_taken all i s below is =
     let more : sig_width (pieces_of (take (i + 1) all)) ≡ sig_width (pieces_of (take i all) ++ piece_of s ∷ []) =
-        ap (λ ss. sig_width (pieces_of ss)) (take_more all i s below ∙ ap (λ x. take i all ++ x ∷ []) (sym is)) ∙ ap sig_width (pieces_both (take i all) (s ∷ [])) in
+    ap (λ ss. sig_width (pieces_of ss)) (take_more all i s below ∙ ap (λ x. take i all ++ x ∷ []) (sym is)) ∙ ap sig_width (pieces_both (take i all) (s ∷ [])) in
     omega (arith, more, sum_by-append piece_width (pieces_of (take i all)) (piece_of s ∷ []))
 
 one_width : (at width : ℕ) (p : Piece) → sig_width (piece_part at width p ∷ []) ≡ width

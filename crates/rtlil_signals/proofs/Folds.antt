@@ -65,4 +65,3 @@ map-drop f (suc k) (x ∷ xs) = map-drop f k xs
 pub none_at : {X : Type 0} (f : X → Option (List Piece)) (xs : List X) (k : ℕ) (x : X) → k < length xs → x ≡ get_or xs k x → f x ≡ None → concatenated (map f xs) ≡ None
 none_at f xs k x below is e =
     none_spreads (map f xs) k (ap concatenated (sym (map-drop f k xs)) ∙ ap (λ ys. concatenated (map f ys)) (drop_item xs k x below is) ∙ ap (in_front (concatenated (map f (drop (k + 1) xs)))) e ∙ front_none (concatenated (map f (drop (k + 1) xs))))
-

@@ -118,7 +118,11 @@ fn drive_part(
     ensures { OnOk result (drives.new ≡ drives.old ++ driven (piece_of part.now) (pieces_of by.now)) }
 {
     match part {
-        Span::Const { of: _, from: _, to: _ } => Ok(()),
+        Span::Const {
+            of: _,
+            from: _,
+            to: _,
+        } => Ok(()),
         Span::Net { net, from, to } => drive_net(alloc, *net, *from, *to, by, drives),
     }
 }

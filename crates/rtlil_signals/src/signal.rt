@@ -65,10 +65,7 @@ fn push_const<'a, 't>(
 }
 
 /// Appends a wire; one that is not there has no bits.
-fn push_net<'a, 't>(
-    spans: &mut Items<Span<'a, 't>>,
-    wire: Option<NamedNet>,
-) -> Result<(), NoMemory>
+fn push_net<'a, 't>(spans: &mut Items<Span<'a, 't>>, wire: Option<NamedNet>) -> Result<(), NoMemory>
     ensures { OnOk result (pieces_of spans.new ≡ pieces_of spans.old ++ net_pieces wire) }
 {
     let Some(wire) = wire else {
@@ -98,12 +95,7 @@ fn sliced<'a, 't>(
     let Some(range) = chosen(width_of(spans.as_slice()), slices) else {
         return Ok(None);
     };
-    Ok(Some(part_of(
-        alloc,
-        spans.as_slice(),
-        range.at,
-        range.width,
-    )?))
+    Ok(Some(part_of(alloc, spans.as_slice(), range.at, range.width)?))
 }
 
 /// The parts of a concatenation as one signal; none where a slice in one is outside.

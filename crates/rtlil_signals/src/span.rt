@@ -48,13 +48,7 @@ impl<'a, 't> Span<'a, 't> {
     }
 }
 
-fn const_part<'a, 't>(
-    of: &'a Const<'t>,
-    from: u64,
-    to: u64,
-    at: u64,
-    width: u64,
-) -> Span<'a, 't>
+fn const_part<'a, 't>(of: &'a Const<'t>, from: u64, to: u64, at: u64, width: u64) -> Span<'a, 't>
     requires { at + width ≤ to - from }
     ensures { piece_of result ≡ piece_part at width (piece.Const (value_part (const_value of.now) from (to - from))) }
 {

@@ -102,12 +102,7 @@ fn bits_part(alloc: Global, whole: &Bits, at: u64, width: u32) -> Result<Bits, N
 }
 
 /// So many bits of a constant, from one on.
-pub fn const_part(
-    alloc: Global,
-    constant: &Const,
-    at: u64,
-    width: u32,
-) -> Result<Bits, NoMemory>
+pub fn const_part(alloc: Global, constant: &Const, at: u64, width: u32) -> Result<Bits, NoMemory>
     ensures { IfOk result (λ bits. bits ≡ value_part (const_value constant.now) at width) }
 {
     let whole = const_bits(alloc, constant)?;

@@ -19,9 +19,9 @@ loop-part-preserved c =
     let l = c.loop-part in
     let at = c.settled-position.result in
     let cut : pieces_of c.as_slice.result.now ≡ sig_part (bit_of c.args.right.now at) c.width-width.result (pieces_of c.args.right.now) =
-        ap pieces_of c.as_slice.ensures ∙ c.in_ok-by.ensures
-        ∙ ap (λ ss. sig_part at.skipped c.width-width.result (pieces_of ss)) (take_rest c.args.right.now at.part)
-        ∙ sym (skip_parts at.part at.skipped c.width-width.result c.args.right.now) in
+    ap pieces_of c.as_slice.ensures ∙ c.in_ok-by.ensures
+    ∙ ap (λ ss. sig_part at.skipped c.width-width.result (pieces_of ss)) (take_rest c.args.right.now at.part)
+    ∙ sym (skip_parts at.part at.skipped c.width-width.result c.args.right.now) in
     let more = connected_more (bit_of c.args.right.now at) c.width-width.result c.args.left.now c.args.right.now (pieces_of c.as_slice.result.now) l.part-index c.part-item.result l.drives c.drive_part.new.drives c.loop-part-test.true c.part-item.is c.width-width.ensures.value cut c.in_ok-drive_part.ensures in
     let rest = λ (k : ℕ). connected_from k (pieces_of (drop (l.part-index + 1) c.args.left.now)) (pieces_of c.args.right.now) in
     let onwards : sig_width (pieces_of (take at.part c.args.right.now)) + (at.skipped + c.width-width.result) ≡ bit_of c.args.right.now at + c.width-width.result = omega arith in

@@ -1,4 +1,4 @@
-use Rattle.std.proofs.Common.{◌≡◌, ◌++◌, ◌∷◌, [], Bool, bytes_eq, true, false, not, ap, sym, ◌∙◌, arith, map, Option, Some, None}
+use Rattle.std.proofs.Common.{◌++◌, ◌∷◌, [], bytes_eq, ap, ◌∙◌, arith, map}
 use Rattle.std.proofs.lemmas.Grind.{common_steps}
 use Rattle.std.specs.Map.{lookup}
 use Rattle.std.specs.Option.{is_some}
@@ -8,7 +8,7 @@ use Rattle.name_table.proofs.table.Table.add.Goals as goal
 
 pub returns-then-contains_key-clause-new : goal.returns-then-contains_key-clause-new
 returns-then-contains_key-clause-new g c =
-    let e = ap is_some (lookup_in_view (λ k. k.now) (bytes_eq c.args.name.now) c.self.inside.entries.entries ) in
+    let e = ap is_some (lookup_in_view (λ k. k.now) (bytes_eq c.args.name.now) c.self.inside.entries.entries) in
     let f = ap (λ t. is_some (lookup (bytes_eq c.args.name.now) t)) c.self.view_is in
     grind (arith, common_steps, e, f)
 

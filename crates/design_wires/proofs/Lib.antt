@@ -1,0 +1,4 @@
+mod Parts
+mod Texts
+mod Bytes
+mod Steps
