@@ -1,9 +1,8 @@
 ghost use Rattle.std.specs.Prelude.{◌≡◌, IfOk, ◌≤◌};
 
-use circuit::Piece;
+use circuit::{Piece, sig_width};
 use signal_words::{
-    SigReader, SigWord, one_piece, one_word, sig_bit, sig_field, sig_width, sig_word, whole_value,
-    word_of,
+    SigReader, SigWord, one_piece, one_word, sig_bit, sig_field, sig_word, whole_value, word_of,
 };
 use sim_base::{Bits, BitsView, NoMemory, Values};
 use std::alloc::Global;

@@ -5,13 +5,13 @@ use lib.Bits.{and_lt}
 use lib.Pow.{lt_of_le_ones}
 use Rattle.std.proofs.lemmas.Bool.{eq-eqb, ne_eqb}
 use Rattle.std.specs.Int.{bit_at}
-use Rattle.std.proofs.Math.Nat.{div-eq_of_lt, mod-eq_of_lt, pow-le-pow_right}
+use Rattle.std.proofs.Math.Nat.{mod-eq_of_lt, pow-le-pow_right}
 use Rattle.std.proofs.Math.Nat.{sub-le}
 use Rattle.std.proofs.lemmas.Bool.Decides.{eqb_tells}
-use Rattle.std.proofs.lemmas.Nat.{mod-pow-add, shr-shr, shr_split, shr_high, shr_below, mod_low, mod_below, pow_pos, pow-add, same_from_place, and_block, or_block, xor_block, le_or_l, le_or_r, or_lt, xor_lt}
+use Rattle.std.proofs.lemmas.Nat.{mod-pow-add, shr_split, shr_high, shr_below, mod_low, mod_below, pow_pos, pow-add, same_from_place, and_block, or_block, xor_block, le_or_l, le_or_r, or_lt, xor_lt}
 use Rattle.std.proofs.lemmas.Nat.Bits.{same_from_bits, same_from_bits_below, bit_at_xor, bit_at-lt, bit_at-zero}
 use Rattle.std.specs.Int.Bits.{or_zero_l}
-use Rattle.sim_base.specs.BitValue.{BitValue, bit_value, number_of_words, AreWords, digit_after_copy}
+use Rattle.sim_base.specs.BitValue.{number_of_words, AreWords}
 use Rattle.sim_base.proofs.Words.{bit_words}
 use Rattle.sim_base.proofs.Field.{bit_at_mod, bit_at_shr}
 use Rattle.circuit.specs.declared.cell.Op.{Op}

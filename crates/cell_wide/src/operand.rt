@@ -7,8 +7,8 @@ ghost use Rattle.cell_wide.specs.Words.{low_of_operand};
 
 use crate::words::{Chain, Fill, Words};
 use crate::write::same;
-use circuit::Piece;
-use signal_words::{SigReader, one_piece, sig_bit, sig_width, sig_word};
+use circuit::{Piece, sig_width};
+use signal_words::{SigReader, one_piece, sig_bit, sig_word};
 use sim_base::Values;
 
 /// A signal, and behind its last bit that bit again where it is signed, or zeros.

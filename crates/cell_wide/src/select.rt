@@ -12,10 +12,8 @@ use crate::operand::is_zero;
 use crate::values::write_digitwise;
 use crate::words::{Bitwise, Chain, Fill, Inverse, Pair};
 use crate::write::write;
-use circuit::{Cell, Op, Piece};
-use signal_words::{
-    SigReader, one_piece, sig_field, sig_width, sig_word, whole_value, whole_word, word_of,
-};
+use circuit::{Cell, Op, Piece, sig_width};
+use signal_words::{SigReader, one_piece, sig_field, sig_word, whole_value, whole_word, word_of};
 use sim_base::Values;
 
 /// Writes the bits of a signal from its bit `at` on.

@@ -12,8 +12,8 @@ use crate::operand::is_zero;
 use crate::word::operand_word;
 use crate::words::{Chain, Fill};
 use crate::write::{same, write};
-use circuit::{Cell, Op, Piece};
-use signal_words::{SigReader, SigWord, are_signed, one_piece, ones_word, sig_width};
+use circuit::{Cell, Op, Piece, sig_width};
+use signal_words::{SigReader, SigWord, are_signed, one_piece, ones_word};
 use sim_base::Values;
 
 /// Whether all bits of a signal are 1.

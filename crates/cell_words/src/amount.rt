@@ -7,8 +7,8 @@ ghost use Rattle.cell_words.specs.Shifts.{farthest, all_ones, is_below_zero, IsA
 
 use crate::narrow::is_below_zero as is_word_below_zero;
 use crate::shift::Amount;
-use circuit::Piece;
-use signal_words::{SigReader, SigWord, one_word, ones_word, sig_bit, sig_width, word_of};
+use circuit::{Piece, sig_width};
+use signal_words::{SigReader, SigWord, one_word, ones_word, sig_bit, word_of};
 use sim_base::Values;
 
 /// No shift moves digits by more places: twice the largest width.

@@ -4,8 +4,8 @@ ghost use Rattle.circuit.specs.Signal.{sig_number, sig_width};
 ghost use Rattle.signal_words.specs.Values.{digits_in, AreInside};
 ghost use Rattle.cell_words.specs.Shifts.{is_below_zero};
 
-use circuit::Piece;
-use signal_words::{SigReader, SigWord, sig_width, sig_word};
+use circuit::{Piece, sig_width};
+use signal_words::{SigReader, SigWord, sig_word};
 use sim_base::Values;
 
 /// The value of a port of at most 128 bits.

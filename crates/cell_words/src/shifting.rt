@@ -13,8 +13,8 @@ use crate::port::Port;
 use crate::shift::{moved_word, shift_of, shifted_plainly};
 use crate::source::{MovedDigits, fill};
 use crate::write::{put_low, put_low_word};
-use circuit::{Cell, Op};
-use signal_words::{SigWord, is_one_word, one_word, sig_width, whole_sig_word, word_of};
+use circuit::{Cell, Op, sig_width};
+use signal_words::{SigWord, is_one_word, one_word, whole_sig_word, word_of};
 use sim_base::{Values, low_digits};
 
 /// Whether the second operand has a sign, which it has in two types alone.

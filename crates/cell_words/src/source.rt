@@ -7,8 +7,8 @@ ghost use Rattle.sim_base.specs.Values.{IsPut, width_at};
 ghost use Rattle.cell_words.specs.Shifts.{extended, moved};
 
 use crate::shift::Shift;
-use circuit::Piece;
-use signal_words::{SigReader, ones_word, sig_width};
+use circuit::{Piece, sig_width};
+use signal_words::{SigReader, ones_word};
 use sim_base::Values;
 use std::marker::Model;
 

@@ -1,7 +1,5 @@
 -- The parts of a number, as the rows of a memory.
-use Rattle.std.proofs.Common.{◌≡◌, ℕ, zero, suc, ◌+◌, ◌-◌, ◌*◌, ◌/◌, ◌%◌, ◌^◌, ◌<◌, ◌≤◌, length, get_or, refl, sym, ◌∙◌, ap, subst, arith}
-use Rattle.std.proofs.lemmas.Nat.{shr-shr, mod_below, pow_pos}
-use Rattle.std.proofs.lemmas.Nat.Bits.{same_from_bits_below}
+use Rattle.std.proofs.Common.{◌≡◌, ℕ, ◌+◌, ◌*◌, ◌/◌, ◌%◌, ◌^◌, ◌<◌, ◌≤◌, length, get_or, sym, ◌∙◌, ap, subst, arith}
 use Rattle.std.proofs.Math.Nat.{mul-le-mul_right}
 use Rattle.std.specs.Int.{bit_at}
 use Rattle.sim_base.specs.BitValue.{BitValue, bit_value, digit_after_copy}
@@ -9,8 +7,6 @@ use Rattle.sim_base.proofs.Parts.{length-parts, part_at, part_is}
 use Rattle.sim_base.specs.Parts.{parts}
 use Rattle.circuit.specs.declared.memory.Mem.{Mem}
 use Rattle.memory_cells.specs.Rows.{AreRowsOf, RowValues}
-use Rattle.state_cells.proofs.Same.{same_value}
-use Rattle.memory_cells.proofs.Placed.{field_digit}
 
 -- a row lies inside the rows
 pub row_inside : (i size width total : ℕ) → i < size → total ≡ size * width → i * width + width ≤ total

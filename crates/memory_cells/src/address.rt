@@ -5,8 +5,8 @@ ghost use Rattle.circuit.specs.Valid.{widest};
 ghost use Rattle.signal_words.specs.Values.{AreInside, digits_in};
 ghost use Rattle.memory_cells.specs.Ports.{place_of};
 
-use circuit::{Mem, Piece};
-use signal_words::{SigReader, sig_width, sig_word};
+use circuit::{Mem, Piece, sig_width};
+use signal_words::{SigReader, sig_word};
 use sim_base::Values;
 
 /// The place of the row that an address names, or none where it is outside the memory.

@@ -1,11 +1,9 @@
 -- Numbers that are put together from parts.
 use Rattle.std.proofs.Common.{◌≡◌, ℕ, zero, suc, ◌+◌, ◌-◌, ◌*◌, ◌/◌, ◌%◌, ◌^◌, ◌<◌, ◌≤◌, sym, ◌∙◌, ap, subst, arith, lit<}
-use Rattle.std.proofs.Math.Nat.{mod-eq_of_lt, pow-le-pow_right}
+use Rattle.std.proofs.Math.Nat.{pow-le-pow_right}
 use Rattle.std.proofs.Math.Pow.{field, mod-mod-pow}
 use Rattle.std.specs.Int.{bit_at}
 use Rattle.std.proofs.lemmas.Nat.{mod-pow-add, shr-shr, shr_split, pow-add, mul-add-lt, shl_whole, shr_high, mod_low, mod_below, pow_pos}
-use Rattle.std.proofs.lemmas.Nat.Bits.{same_from_bits_below, bit_at_cat_low}
-use Rattle.sim_base.proofs.Field.{bit_at_mod, bit_at_shr}
 use Rattle.circuit.specs.Signal.{gathered}
 
 -- some digits of a number, as the number that they make

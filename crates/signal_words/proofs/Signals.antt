@@ -1,17 +1,22 @@
 -- The numbers of signals and of their pieces.
 use Rattle.std.proofs.Common.{◌≡◌, ℕ, zero, suc, ◌+◌, ◌-◌, ◌*◌, ◌/◌, ◌%◌, ◌^◌, ◌<◌, ◌≤◌, List, [], ◌∷◌, ◌++◌, take, length, get_or, refl, sym, ◌∙◌, ap, subst, arith}
 use Rattle.std.proofs.Math.Nat.{zero-div}
-use Rattle.std.proofs.lemmas.Nat.{pow-add, shr-shr, mod_below, pow_pos}
+use Rattle.std.proofs.lemmas.Nat.{pow-add, shr-shr}
+use Rattle.std.proofs.lemmas.Nat.Bits.{bit_at-lt}
 use Rattle.std.proofs.lemmas.List.{take_more}
 use Rattle.std.proofs.lemmas.List.Sums.{sum_by-cons, sum_by_more, sum_by_more_le}
 use Rattle.sim_base.specs.BitValue.{BitValue, bit_value}
-use Rattle.circuit.specs.Signal.{Digits, piece_number, piece_width, sig_number, sig_width}
+use Rattle.circuit.specs.Signal.{AreBits, Digits, piece_number, piece_width, sig_number, sig_width}
 use Rattle.circuit.specs.declared.netlist.Piece.{Piece}
 use Rattle.circuit.specs.declared.netlist.Piece.TheVariants as piece
 use Rattle.sim_base.specs.Values.{number_at, numbers, width_at}
 use Rattle.signal_words.specs.Values.{digits_in, first_width, IsInside, AreInside, IsPlace}
 use Rattle.sim_base.proofs.Parts.{low_field, high_part, whole_field}
-use Rattle.signal_words.proofs.Numbers.{field_gathered, shifted_below}
+use Rattle.signal_words.proofs.Numbers.{field_gathered}
+
+-- a bit of a number is 0 or 1
+pub are_bits : (values : List BitValue) → AreBits (digits_in values)
+are_bits values net bit = bit_at-lt (get_or (numbers values) net 0) bit
 
 -- ---- one piece
 
@@ -28,10 +33,6 @@ width_read values n v e = ap (λ (x : BitValue). x.width) (sym e)
 -- a part is a field of its net's number
 pub part_field : (values : List BitValue) (net at w : ℕ) → piece_number (digits_in values) (piece.Part net at w) ≡ get_or (numbers values) net 0 / 2 ^ at % 2 ^ w
 part_field values net at w = sym (field_gathered (get_or (numbers values) net 0) at w)
-
-pub part_below : (values : List BitValue) (net at w : ℕ) → piece_number (digits_in values) (piece.Part net at w) < 2 ^ w
-part_below values net at w =
-    subst (λ n. n < 2 ^ w) (sym (part_field values net at w)) (mod_below (get_or (numbers values) net 0 / 2 ^ at) (2 ^ w) (pow_pos w))
 
 -- a part as wide as its net is the net's value
 pub whole_net : (values : List BitValue) (net at w : ℕ) (v : BitValue) → IsInside values (piece.Part net at w) → v ≡ bit_value (width_at values net) (number_at values net) → w ≡ v.width → v.number < 2 ^ w
@@ -66,13 +67,6 @@ width_more ps i p lt e = sum_by_more piece_width ps i p lt ∙ ap (λ x. sig_wid
 
 pub width_inside : (ps : List Piece) (i : ℕ) (p : Piece) → i < length ps → p ≡ get_or ps i p → sig_width (take i ps) + piece_width p ≤ sig_width ps
 width_inside ps i p lt e = subst (λ (x : Piece). sig_width (take i ps) + piece_width x ≤ sig_width ps) (sym e) (sum_by_more_le piece_width ps i p lt)
-
--- the number of one more piece
-pub more_below : (values : List BitValue) (ps : List Piece) (i : ℕ) (p : Piece) → i < length ps → p ≡ get_or ps i p → sig_number (digits_in values) (take i ps) < 2 ^ sig_width (take i ps) → piece_number (digits_in values) p < 2 ^ piece_width p → sig_number (digits_in values) (take (i + 1) ps) < 2 ^ sig_width (take (i + 1) ps)
-more_below values ps i p lt e low part =
-    let m = shifted_below (sig_number (digits_in values) (take i ps)) (piece_number (digits_in values) p) (piece_width p) (sig_width (take i ps)) low part in
-    subst (λ n. n < 2 ^ sig_width (take (i + 1) ps)) (sym (sig_more (digits_in values) ps i p lt e))
-    (subst (λ w. piece_number (digits_in values) p * 2 ^ sig_width (take i ps) + sig_number (digits_in values) (take i ps) < 2 ^ w) (sym (width_more ps i p lt e)) m)
 
 -- each piece lies inside
 pub inside_at : (values : List BitValue) (ps : List Piece) (i : ℕ) (p : Piece) → AreInside values ps → i < length ps → p ≡ get_or ps i p → IsInside values p

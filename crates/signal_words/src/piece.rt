@@ -1,24 +1,11 @@
 //! One piece of a signal.
-ghost use Rattle.std.specs.Prelude.{◌≡◌, ℕ, List, ◌+◌, ◌/◌, ◌%◌, ◌^◌, ◌<◌, ◌≤◌, IfSome};
-ghost use Rattle.sim_base.specs.BitValue.{BitValue, bit_value};
+ghost use Rattle.std.specs.Prelude.{◌≡◌, ◌+◌, ◌/◌, ◌%◌, ◌^◌, ◌<◌, ◌≤◌, IfSome};
+ghost use Rattle.sim_base.specs.BitValue.{bit_value};
 ghost use Rattle.circuit.specs.Signal.{piece_number, piece_width};
 ghost use Rattle.signal_words.specs.Values.{digits_in, IsInside};
 
 use circuit::Piece;
 use sim_base::{BitsView, Values};
-
-/// How many bits a piece has.
-#[inline]
-pub fn piece_width(piece: &Piece) -> u32
-    ensures value { result ≡ piece_width piece.now }
-    ensures fits { piece_width piece.now < 2 ^ 32 }
-    ensures below { (values : List BitValue) → piece_number (digits_in values) piece.now < 2 ^ piece_width piece.now }
-{
-    match piece {
-        Piece::Const(value) => value.width(),
-        Piece::Part { width, .. } => *width,
-    }
-}
 
 /// The number of `n` bits of a piece from its bit `at` on.
 #[inline]

@@ -4,7 +4,7 @@ ghost use Rattle.sim_base.specs.BitValue.{bit_value};
 ghost use Rattle.circuit.specs.Signal.{sig_value, sig_width};
 ghost use Rattle.signal_words.specs.Values.{digits_in, AreInside};
 
-use crate::piece::{piece_field, piece_width};
+use crate::piece::piece_field;
 use circuit::Piece;
 use sim_base::Values;
 use std::marker::Model;
@@ -55,7 +55,7 @@ impl<'a> SigReader<'a> {
     {
         if let Some((piece, _)) = self.pieces.split_first() {
             let at = self.at;
-            let left = piece_width(piece) - at;
+            let left = piece.width() - at;
             if n < left {
                 let word = piece_field(piece, self.nets, at, n);
                 self.at = at + n;
@@ -79,7 +79,7 @@ impl<'a> SigReader<'a> {
             let Some((piece, behind)) = pieces.split_first() else {
                 break;
             };
-            let left = piece_width(piece) - at;
+            let left = piece.width() - at;
             let width = left.min(n - taken);
             word += piece_field(piece, self.nets, at, width) << taken;
             taken += width;
@@ -105,7 +105,7 @@ impl<'a> SigReader<'a> {
             let Some((piece, behind)) = pieces.split_first() else {
                 break;
             };
-            let left = piece_width(piece) - at;
+            let left = piece.width() - at;
             let width = left.min(more);
             more -= width;
             if width < left {

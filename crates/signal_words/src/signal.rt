@@ -1,28 +1,14 @@
 //! Signals in words.
-ghost use Rattle.std.specs.Prelude.{◌≡◌, ℕ, List, ◌+◌, ◌/◌, ◌%◌, ◌^◌, ◌<◌, ◌≤◌};
+ghost use Rattle.std.specs.Prelude.{◌≡◌, ◌+◌, ◌/◌, ◌%◌, ◌^◌, ◌<◌, ◌≤◌};
 ghost use Rattle.std.specs.Int.{bit_at};
-ghost use Rattle.sim_base.specs.BitValue.{BitValue, digit_of};
+ghost use Rattle.sim_base.specs.BitValue.{digit_of};
 ghost use Rattle.circuit.specs.Signal.{sig_number, sig_width};
 ghost use Rattle.signal_words.specs.Values.{digits_in, AreInside};
 
-use crate::piece::{piece_field, piece_width, piece_word};
+use crate::piece::{piece_field, piece_word};
 use crate::reader::SigReader;
 use circuit::Piece;
 use sim_base::Values;
-
-/// The width of a signal in bits. What the nets hold, the number of the signal is below 2 to it.
-#[inline]
-pub fn sig_width(sig: &[Piece]) -> u32
-    requires { sig_width sig.now < 2 ^ 32 }
-    ensures value { result ≡ sig_width sig.now }
-    ensures below { (values : List BitValue) → sig_number (digits_in values) sig.now < 2 ^ sig_width sig.now }
-{
-    let mut width = 0u32;
-    for piece in sig {
-        width += piece_width(piece);
-    }
-    width
-}
 
 /// The number of a signal of at most 64 bits.
 #[inline]
@@ -35,7 +21,7 @@ pub fn sig_word(sig: &[Piece], nets: &Values) -> u64
     let mut word = 0u64;
     let mut offset = 0u32;
     for piece in sig {
-        let width = piece_width(piece);
+        let width = piece.width();
         let part = piece_word(piece, nets);
         if width > 0 {
             word += part << offset;
@@ -67,7 +53,7 @@ pub fn sig_field(sig: &[Piece], nets: &Values, at: u32, n: u32) -> u64
     ensures { result ≡ sig_number (digits_in nets.now) sig.now / 2 ^ at % 2 ^ n }
 {
     if let [piece] = sig {
-        let width = piece_width(piece);
+        let width = piece.width();
         if at <= width && n <= width - at {
             return piece_field(piece, nets, at, n);
         }

@@ -4,10 +4,10 @@ ghost use Rattle.sim_base.specs.BitValue.{bit_value};
 ghost use Rattle.circuit.specs.Signal.{piece_number, piece_width, sig_value, sig_width};
 ghost use Rattle.signal_words.specs.Values.{digits_in, AreInside, IsInside, IsWordOf};
 
-use crate::piece::{piece_of_width, piece_value, piece_width, piece_word};
-use crate::signal::{sig_width, sig_word};
+use crate::piece::{piece_of_width, piece_value, piece_word};
+use crate::signal::sig_word;
 use crate::values::SigWord;
-use circuit::Piece;
+use circuit::{Piece, sig_width};
 use sim_base::{BitsView, Values};
 
 /// The width and the number of a piece of at most 64 bits.
@@ -19,7 +19,7 @@ fn word_of_piece(piece: &Piece, nets: &Values) -> Option<SigWord>
     ensures number { IfSome result (λ word. word.number ≡ piece_number (digits_in nets.now) piece.now) }
     ensures below { IfSome result (λ word. word.number < 2 ^ word.width) }
 {
-    let width = piece_width(piece);
+    let width = piece.width();
     if width > 64 {
         return None;
     }
@@ -36,7 +36,7 @@ fn word_of_whole_piece(piece: &Piece, nets: &Values) -> Option<SigWord>
     ensures number { IfSome result (λ word. word.number ≡ piece_number (digits_in nets.now) piece.now) }
     ensures below { IfSome result (λ word. word.number < 2 ^ word.width) }
 {
-    let width = piece_width(piece);
+    let width = piece.width();
     if width > 64 {
         return None;
     }

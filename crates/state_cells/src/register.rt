@@ -11,8 +11,8 @@ ghost use Rattle.state_cells.specs.Sources.{has_source, sourced_number};
 
 use crate::parts::{active_digits, overlaid};
 use crate::source::{Source, source_of};
-use circuit::{Piece, Reg, RegKind, Store};
-use signal_words::{SigReader, sig_width, sig_word};
+use circuit::{Piece, Reg, RegKind, Store, sig_width};
+use signal_words::{SigReader, sig_word};
 use sim_base::{Bits, Values};
 
 /// Puts the next number of a register, from the values of the nets in the round before and in this one,

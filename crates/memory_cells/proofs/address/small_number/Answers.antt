@@ -2,6 +2,7 @@ use Rattle.std.proofs.Common.{◌≡◌, ℕ, ◌+◌, ◌/◌, ◌%◌, ◌^◌
 use Rattle.sim_base.specs.BitValue.{BitValue}
 use Rattle.circuit.specs.Signal.{sig_number, sig_width}
 use Rattle.signal_words.specs.Values.{digits_in}
+use Rattle.signal_words.proofs.Signals.{are_bits}
 use Rattle.memory_cells.proofs.HighDigits.{HighPart, first_part, next_part, not_below, no_more, small_none, small_some}
 use Rattle.memory_cells.proofs.address.small_number.Goals as goal
 
@@ -28,5 +29,5 @@ returns-then-take-ne0 c =
 pub returns : goal.returns
 returns c =
     let number = sig_number (digits_in c.args.nets.now) c.args.sig.now in
-    let e : number ≡ c.take-word.result = no_more number c.loop-at.reader.number c.loop-at.at c.take-word.result (sig_width c.args.sig.now) c.loop-at.invariant.high (c.sig_width-width.ensures.below c.args.nets.now) (omega (arith, c.loop-at-test.false, c.sig_width-width.ensures.value)) in
+    let e : number ≡ c.take-word.result = no_more number c.loop-at.reader.number c.loop-at.at c.take-word.result (sig_width c.args.sig.now) c.loop-at.invariant.high (c.sig_width-width.ensures.below (digits_in c.args.nets.now) (are_bits c.args.nets.now)) (omega (arith, c.loop-at-test.false, c.sig_width-width.ensures.value)) in
     sym (small_some number c.take-word.result e c.loop-at.invariant.high.below)

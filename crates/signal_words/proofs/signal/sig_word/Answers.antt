@@ -28,8 +28,8 @@ overflow_add-word c =
 pub loop-piece-preserved : goal.loop-piece-preserved
 loop-piece-preserved c =
     let lt : c.loop-piece.piece-index < length c.args.sig.now = c.loop-piece-test.true in
-    let wide : c.loop-piece.offset + c.piece_width-width.result ≡ sig_width (take (c.loop-piece.piece-index + 1) c.args.sig.now) =
-    omega (arith, width_more c.args.sig.now c.loop-piece.piece-index c.piece-item.result lt c.piece-item.is, c.loop-piece.invariant.offset, c.piece_width-width.ensures.value) in
+    let wide : c.loop-piece.offset + c.width-width.result ≡ sig_width (take (c.loop-piece.piece-index + 1) c.args.sig.now) =
+    omega (arith, width_more c.args.sig.now c.loop-piece.piece-index c.piece-item.result lt c.piece-item.is, c.loop-piece.invariant.offset, c.width-width.ensures.value) in
     let inside : c.loop-piece.offset + piece_width c.piece-item.result ≤ 64 =
     omega (arith, width_inside c.args.sig.now c.loop-piece.piece-index c.piece-item.result lt c.piece-item.is, c.loop-piece.invariant.offset, c.requires.small) in
     let number : c.piece_word-part.result * 2 ^ c.loop-piece.offset + c.loop-piece.word ≡ sig_number (digits_in c.args.nets.now) (take (c.loop-piece.piece-index + 1) c.args.sig.now) =
@@ -38,14 +38,14 @@ loop-piece-preserved c =
     ∙ ap (λ x. piece_number (digits_in c.args.nets.now) c.piece-item.result * 2 ^ x + sig_number (digits_in c.args.nets.now) (take c.loop-piece.piece-index c.args.sig.now)) c.loop-piece.invariant.offset
     ∙ sym (sig_more (digits_in c.args.nets.now) c.args.sig.now c.loop-piece.piece-index c.piece-item.result lt c.piece-item.is) in
     let s = put_above c.loop-piece.offset (piece_width c.piece-item.result) c.piece_word-part.result c.loop-piece.word c.loop-piece.invariant.below c.piece_word-part.ensures.below inside in
-    let below : c.piece_word-part.result * 2 ^ c.loop-piece.offset + c.loop-piece.word < 2 ^ (c.loop-piece.offset + c.piece_width-width.result) =
-    subst (λ w. c.piece_word-part.result * 2 ^ c.loop-piece.offset + c.loop-piece.word < 2 ^ (c.loop-piece.offset + w)) (sym c.piece_width-width.ensures.value) s.below in
+    let below : c.piece_word-part.result * 2 ^ c.loop-piece.offset + c.loop-piece.word < 2 ^ (c.loop-piece.offset + c.width-width.result) =
+    subst (λ w. c.piece_word-part.result * 2 ^ c.loop-piece.offset + c.loop-piece.word < 2 ^ (c.loop-piece.offset + w)) (sym c.width-width.ensures.value) s.below in
     elim c.if-width-gt0.branch [
       | then-width-gt0 w ↦
           (let is : c.if-width-gt0.word ≡ c.piece_word-part.result * 2 ^ c.loop-piece.offset + c.loop-piece.word = w.word-is ∙ s.sum in
           record { offset = wide; word = is ∙ number; below = rw is below })
       | else-width-gt0 w ↦
-          (let none : piece_width c.piece-item.result ≡ 0 = omega (arith, w.if-width-gt0.false, c.piece_width-width.ensures.value) in
+          (let none : piece_width c.piece-item.result ≡ 0 = omega (arith, w.if-width-gt0.false, c.width-width.ensures.value) in
           let zero : c.piece_word-part.result < 1 = subst (λ k. c.piece_word-part.result < 2 ^ k) none c.piece_word-part.ensures.below in
           let z : c.piece_word-part.result ≡ 0 = omega (arith, zero) in
           let p : 0 * 2 ^ c.loop-piece.offset + c.loop-piece.word ≡ c.loop-piece.word = omega arith in

@@ -6,6 +6,7 @@ use Rattle.sim_base.specs.BitValue.{BitValue}
 use Rattle.sim_base.specs.Values.{width_at}
 use Rattle.sim_base.proofs.Filling.{filling_all, filling_below, filling_more, filling_none, filling_there, word_part}
 use Rattle.signal_words.specs.Values.{digits_in}
+use Rattle.signal_words.proofs.Signals.{are_bits}
 use Rattle.state_cells.proofs.register.put_words.Goals as goal
 
 pub loop-at-init : goal.loop-at-init
@@ -34,7 +35,7 @@ put_word_at-changed-requires-clause-below c =
 pub loop-at-preserved : goal.loop-at-preserved
 loop-at-preserved c =
     let x = sig_number (digits_in c.args.nets.now) c.args.sig.now in
-    let fits : x < 2 ^ c.sig_width-width.result = subst (λ w. x < 2 ^ w) (sym c.sig_width-width.ensures.value) (c.sig_width-width.ensures.below c.args.nets.now) in
+    let fits : x < 2 ^ c.sig_width-width.result = subst (λ w. x < 2 ^ w) (sym c.sig_width-width.ensures.value) (c.sig_width-width.ensures.below (digits_in c.args.nets.now) (are_bits c.args.nets.now)) in
     record {
       left = ap (λ (v : BitValue). v.number) c.take-word.ensures.rest ∙ ap (λ m. m / 2 ^ c.min-n.result) c.loop-at.invariant.left ∙ shr-shr _ c.loop-at.at c.min-n.result;
       filling = filling_more _ _ _ _ _ _ _ c.min-n.result c.take-word.result _ _ c.loop-at.invariant.filling c.loop-at-test.true c.min-n.ensures
@@ -46,5 +47,5 @@ loop-at-preserved c =
 pub returns : goal.returns
 returns c =
     let x = sig_number (digits_in c.args.nets.now) c.args.sig.now in
-    let fits : x < 2 ^ c.sig_width-width.result = subst (λ w. x < 2 ^ w) (sym c.sig_width-width.ensures.value) (c.sig_width-width.ensures.below c.args.nets.now) in
+    let fits : x < 2 ^ c.sig_width-width.result = subst (λ w. x < 2 ^ w) (sym c.sig_width-width.ensures.value) (c.sig_width-width.ensures.below (digits_in c.args.nets.now) (are_bits c.args.nets.now)) in
     filling_all _ _ _ _ _ _ _ c.loop-at.invariant.filling c.loop-at-test.false (c.sig_width-width.ensures.value ∙ sym c.requires.width) c.width.ensures.below fits

@@ -3,7 +3,7 @@ use Rattle.sim_base.specs.BitValue.{BitValue}
 use Rattle.circuit.specs.Signal.{sig_number}
 use Rattle.signal_words.specs.Values.{digits_in}
 use Rattle.signal_words.proofs.Numbers.{IsRead, none_read}
-use Rattle.signal_words.proofs.Signals.{inside_first}
+use Rattle.signal_words.proofs.Signals.{are_bits, inside_first}
 use Rattle.signal_words.proofs.Steps.{IsTaken, part_fits, read_inside, read_behind, taken_whole, taken_end}
 use Rattle.signal_words.proofs.reader.SigReader.take_across.Goals as goal
 use Rattle.signal_words.proofs.reader.SigReader.take_across.Goals.{else-loop-taken-test, then-loop-taken-test+in_default}
@@ -24,18 +24,18 @@ pub overflow_add-word : goal.overflow_add-word
 overflow_add-word c =
     let f : c.loop-taken.word + c.piece_field.result * 2 ^ c.loop-taken.taken % 2 ^ 64 < 2 ^ 64 =
     part_fits c.self.inside.nets.now c.loop-taken.pieces.now c.in-Some.piece.now c.in-Some.behind.now c.loop-taken.at c.args.n c.args.self.now.width c.args.self.now.number c.loop-taken.word c.loop-taken.taken c.min-width.result c.piece_field.result
-    c.in-Some.ensures.cases.0 c.loop-taken.invariant (record { small = c.requires; wide = omega (arith, c.min-width.ensures, c.piece_width.ensures.value); field = c.piece_field.ensures }) in
+    c.in-Some.ensures.cases.0 c.loop-taken.invariant (record { small = c.requires; wide = omega (arith, c.min-width.ensures, c.width.ensures.value); field = c.piece_field.ensures }) in
     omega (arith, f)
 
 pub loop-taken-preserved-then-width-left : goal.loop-taken-preserved-then-width-left
 loop-taken-preserved-then-width-left c =
     read_inside c.self.inside.nets.now c.loop-taken.pieces.now c.in-Some.piece.now c.in-Some.behind.now c.loop-taken.at c.args.n c.args.self.now.width c.args.self.now.number c.loop-taken.word c.loop-taken.taken c.min-width.result c.piece_field.result
-    c.in-Some.ensures.cases.0 c.loop-taken.invariant (record { small = c.requires; wide = omega (arith, c.min-width.ensures, c.piece_width.ensures.value); field = c.piece_field.ensures })
+    c.in-Some.ensures.cases.0 c.loop-taken.invariant (record { small = c.requires; wide = omega (arith, c.min-width.ensures, c.width.ensures.value); field = c.piece_field.ensures })
 
 pub loop-taken-preserved : goal.loop-taken-preserved
 loop-taken-preserved c =
     read_behind c.self.inside.nets.now c.loop-taken.pieces.now c.in-Some.piece.now c.in-Some.behind.now c.loop-taken.at c.args.n c.args.self.now.width c.args.self.now.number c.loop-taken.word c.loop-taken.taken c.min-width.result c.piece_field.result
-    c.in-Some.ensures.cases.0 c.loop-taken.invariant (record { small = c.requires; wide = omega (arith, c.min-width.ensures, c.piece_width.ensures.value); field = c.piece_field.ensures }) (c.piece_width.ensures.below c.self.inside.nets.now) (omega (arith, c.min-width.ensures, c.piece_width.ensures.value, c.if-width-left.false))
+    c.in-Some.ensures.cases.0 c.loop-taken.invariant (record { small = c.requires; wide = omega (arith, c.min-width.ensures, c.width.ensures.value); field = c.piece_field.ensures }) (c.width.ensures.below (digits_in c.self.inside.nets.now) (are_bits c.self.inside.nets.now)) (omega (arith, c.min-width.ensures, c.width.ensures.value, c.if-width-left.false))
 
 taken : (c : goal.After-self-1) → IsTaken c.self.inside.nets.now c.loop-taken.pieces.now c.loop-taken.at c.args.n c.args.self.now.width c.args.self.now.number c.loop-taken.word
 taken c = elim c.loop-taken-test.branch [
