@@ -1,3 +1,4 @@
+//! Histories, an entry a line: those of which each entry may come next, and entries that may not.
 use hall_core::{
     Act, Entry, Goal, Hall, History, Why, law_of_batches, law_of_beginnings, law_of_clients,
     law_of_first_entries, law_of_goals, law_of_goals_ahead, law_of_hold, law_of_logs,
@@ -5,390 +6,335 @@ use hall_core::{
     log_text,
 };
 use sim_base::Kinds;
-use std::alloc::Global;
+use std::alloc::{AllocError, Global};
 use std::process::Abort;
 use std::test::Fail;
 
-const NONE: Kinds = Kinds {
-    asserts: false,
-    assumes: false,
-};
-
-const ASSERTS: Kinds = Kinds {
-    asserts: true,
-    assumes: false,
-};
-
-const BOTH: Kinds = Kinds {
-    asserts: true,
-    assumes: true,
-};
-
-const LOOK: Act = Act::Look;
-
-fn to(n: u64) -> Goal {
-    Goal::To(n, NONE)
+/// The first word, and the words behind it.
+fn word_of(words: &str) -> (&str, &str) {
+    words.split_once(' ').unwrap_or((words, ""))
 }
 
-/// The entries, each of which may come next, with the number of samples and the goal behind it.
-fn goes(
-    rt: &impl Abort,
-    alloc: Global,
-    count: u64,
-    steps: &[(Entry, u64, Goal)],
-    log: &str,
-) -> Result<(), Fail> {
-    let mut hall = Hall::new(alloc, count)?;
-    for (entry, n, goal) in steps {
-        assert!(rt; hall.allows(*entry), "{entry:?}");
-        hall.step(*entry)?;
-        assert_eq!(rt; hall.n(), *n, "{entry:?}");
-        assert_eq!(rt; hall.goal(), *goal, "{entry:?}");
+fn number(word: &str) -> Option<u64> {
+    word.parse().ok()
+}
+
+fn kinds_of(words: &str) -> Kinds {
+    Kinds {
+        asserts: words.contains("assert"),
+        assumes: words.contains("assume"),
     }
-    assert_eq!(rt; hall.history().as_slice().len(), steps.len());
+}
+
+fn act_of(words: &str) -> Option<Act> {
+    let (word, words) = word_of(words);
+    let (n, kinds) = word_of(words);
+    match word {
+        "" => Some(Act::Look),
+        "pause" => Some(Act::Pause),
+        "run" => Some(Act::Run(number(n)?, kinds_of(kinds))),
+        _ => None,
+    }
+}
+
+fn why_of(word: &str) -> Option<Why> {
+    match word {
+        "ended" => Some(Why::Ended),
+        "fault" => Some(Why::Fault),
+        "too_long" => Some(Why::TooLong),
+        "slow" => Some(Why::Slow),
+        "limit" => Some(Why::Limit),
+        "memory" => Some(Why::Memory),
+        "over" => Some(Why::Over),
+        _ => None,
+    }
+}
+
+/// The entry that a line of a log stands for.
+fn entry_of(line: &str) -> Option<Entry> {
+    let (word, words) = word_of(line);
+    let (n, rest) = word_of(words);
+    match word {
+        "record" => Some(Entry::Record(number(n)?, rest == "hit")),
+        "open" => Some(Entry::Open(number(n)?)),
+        "packet" => Some(Entry::Packet(number(n)?, act_of(rest)?)),
+        "unsettled" => Some(Entry::Unsettled),
+        "close" => Some(Entry::Close(number(n)?, why_of(rest)?)),
+        "end" => Some(Entry::End),
+        _ => None,
+    }
+}
+
+fn word_if(flag: bool, word: &str) -> &str {
+    if flag { word } else { "" }
+}
+
+/// The number of samples and the goal of a history.
+fn standing(alloc: Global, hall: &Hall) -> Result<String, AllocError> {
+    let n = hall.n();
+    match hall.goal() {
+        Goal::Hold => format!(in alloc; "{n} hold"),
+        Goal::Over => format!(in alloc; "{n} over"),
+        Goal::To(end, kinds) => {
+            let asserts = word_if(kinds.asserts, " assert");
+            let assumes = word_if(kinds.assumes, " assume");
+            format!(in alloc; "{n} to {end}{asserts}{assumes}")
+        }
+    }
+}
+
+/// Takes in the entry of a row, with what stands behind it, or sees that it may not come next.
+fn goes(rt: &impl Abort, alloc: Global, hall: &mut Hall, row: &str) -> Result<bool, Fail> {
+    let (line, want) = row.split_once(" -> ").unwrap_or((row, ""));
+    let Some(entry) = entry_of(line) else {
+        assert!(rt; false, "{row}");
+        return Ok(false);
+    };
+    if !hall.allows(entry) {
+        assert_eq!(rt; "no", want, "{row}");
+        return Ok(false);
+    }
+    hall.step(entry)?;
+    let got = standing(alloc, hall)?;
+    assert_eq!(rt; got.as_str(), want, "{row}");
+    Ok(true)
+}
+
+/// A history's rows behind a line with the number of its samples.
+fn history_goes(rt: &impl Abort, alloc: Global, section: &str) -> Result<(), Fail> {
+    let (head, rows) = section.split_once('\n').unwrap_or((section, ""));
+    let (count, _) = word_of(head);
+    let mut hall = Hall::new(alloc, number(count).unwrap_or(0))?;
+    let mut log = String::new(alloc);
+    for row in rows.lines() {
+        if goes(rt, alloc, &mut hall, row)? {
+            let (line, _) = row.split_once(" -> ").unwrap_or((row, ""));
+            log.push_str(line)?;
+            log.push_str("\n")?;
+        }
+    }
     let text = log_text(alloc, hall.history())?;
-    assert_eq!(rt; text.as_slice(), log.as_bytes());
+    assert_eq!(rt; text.as_slice(), log.as_bytes(), "{head}");
     Ok(())
 }
 
-#[test]
-fn a_run_that_does_not_settle_at_sample_1(rt: HostRuntime) -> Result<(), Fail> {
-    goes(
-        &rt,
-        rt.alloc(),
-        2,
-        &[
-            (Entry::Record(1, false), 1, Goal::Hold),
-            (Entry::Open(0), 1, Goal::Hold),
-            (Entry::Packet(0, LOOK), 1, Goal::Hold),
-            (Entry::Packet(0, Act::Run(2, NONE)), 1, to(2)),
-            (Entry::Unsettled, 1, Goal::Hold),
-            (Entry::Packet(0, Act::Run(2, NONE)), 1, Goal::Hold),
-            (Entry::Close(0, Why::Ended), 1, Goal::Hold),
-            (Entry::End, 1, Goal::Over),
-        ],
-        "record 1\nopen 0\npacket 0\npacket 0 run 2\nunsettled\npacket 0 run 2\nclose 0 ended\nend\n",
-    )
-}
+const HISTORIES: &str = "2 samples, of which the second does not settle
+record 1 -> 1 hold
+open 0 -> 1 hold
+packet 0 -> 1 hold
+packet 0 run 2 -> 1 to 2
+unsettled -> 1 hold
+packet 0 run 2 -> 1 hold
+close 0 ended -> 1 hold
+end -> 1 over
+
+512 samples: a run without a time goes to the end
+record 1 -> 1 hold
+open 0 -> 1 hold
+packet 0 -> 1 hold
+packet 0 -> 1 hold
+packet 0 run 512 -> 1 to 512
+record 256 -> 257 to 512
+packet 0 -> 257 to 512
+record 255 -> 512 hold
+packet 0 -> 512 hold
+packet 0 -> 512 hold
+packet 0 -> 512 hold
+close 0 ended -> 512 hold
+end -> 512 over
+
+6 samples: a run to what is recorded reaches its goal at once
+record 1 -> 1 hold
+open 0 -> 1 hold
+packet 0 -> 1 hold
+packet 0 run 4 -> 1 to 4
+record 3 -> 4 hold
+packet 0 -> 4 hold
+packet 0 run 4 -> 4 hold
+packet 0 run 0 assert assume -> 4 hold
+
+512 samples: a pause and a shorter run
+record 1 -> 1 hold
+open 0 -> 1 hold
+packet 0 run 100 -> 1 to 100
+record 64 -> 65 to 100
+packet 0 pause -> 65 hold
+packet 0 run 70 -> 65 to 70
+record 5 -> 70 hold
+
+9 samples: a run stops at a hit
+record 1 -> 1 hold
+open 0 -> 1 hold
+open 1 -> 1 hold
+packet 1 run 9 assert -> 1 to 9 assert
+record 2 -> 3 to 9 assert
+record 1 hit -> 4 hold
+packet 0 run 5 assume -> 4 to 5 assume
+record 1 hit -> 5 hold
+
+6 samples, an assertion fires at 3 and 4: a run that stops at assertions
+record 1 -> 1 hold
+open 0 -> 1 hold
+packet 0 -> 1 hold
+packet 0 run 6 assert -> 1 to 6 assert
+record 3 hit -> 4 hold
+packet 0 run 6 assert -> 4 to 6 assert
+record 1 hit -> 5 hold
+packet 0 run 6 assert -> 5 to 6 assert
+record 1 -> 6 hold
+close 0 ended -> 6 hold
+end -> 6 over
+
+6 samples, an assertion fires at 3 and 4: a run that stops at assumptions
+record 1 -> 1 hold
+open 0 -> 1 hold
+packet 0 -> 1 hold
+packet 0 run 6 assume -> 1 to 6 assume
+record 5 -> 6 hold
+close 0 ended -> 6 hold
+end -> 6 over
+
+9 samples: what may not begin
+open 0 -> no
+packet 0 -> no
+packet 0 run 1 -> no
+record 0 -> no
+record 1 hit -> no
+record 2 -> no
+close 0 ended -> no
+end -> no
+
+9 samples: sample 0 does not settle
+unsettled -> 0 hold
+open 0 -> no
+packet 0 -> no
+record 1 -> no
+unsettled -> no
+close 0 ended -> no
+end -> 0 over
+open 0 -> no
+open 1 -> no
+packet 0 -> no
+record 1 -> no
+unsettled -> no
+close 0 ended -> no
+end -> no
+
+9 samples: nothing follows the end
+record 1 -> 1 hold
+end -> 1 over
+open 0 -> no
+open 1 -> no
+packet 0 -> no
+record 1 -> no
+unsettled -> no
+close 0 ended -> no
+end -> no
+
+9 samples: a client is open from its open to its close
+record 1 -> 1 hold
+open 1 -> no
+packet 0 -> no
+close 0 fault -> no
+open 0 -> 1 hold
+open 0 -> no
+open 2 -> no
+packet 1 -> no
+close 1 ended -> no
+packet 18446744073709551615 -> no
+end -> no
+close 0 fault -> 1 hold
+open 0 -> no
+packet 0 -> no
+close 0 fault -> no
+
+9 samples: no end before each client is gone
+record 1 -> 1 hold
+open 0 -> 1 hold
+open 1 -> 1 hold
+close 0 fault -> 1 hold
+end -> no
+
+9 samples: a goal lets no more be recorded, nor a pause
+record 1 -> 1 hold
+record 1 -> no
+record 1 hit -> no
+unsettled -> no
+open 0 -> 1 hold
+packet 0 run 4 -> 1 to 4
+record 0 -> no
+record 4 -> no
+record 18446744073709551615 -> no
+packet 0 run 10 -> no
+packet 0 pause -> 1 hold
+record 1 -> no
+record 1 hit -> no
+unsettled -> no
+
+9 samples: nothing is recorded behind a goal that is reached
+record 1 -> 1 hold
+open 0 -> 1 hold
+packet 0 run 4 -> 1 to 4
+record 3 -> 4 hold
+record 1 -> no
+record 1 hit -> no
+unsettled -> no
+
+9 samples: nothing is recorded behind a hit
+record 1 -> 1 hold
+open 0 -> 1 hold
+packet 0 run 4 -> 1 to 4
+record 1 hit -> 2 hold
+record 1 -> no
+record 1 hit -> no
+unsettled -> no
+
+9 samples: nothing is recorded behind a sample that does not settle
+record 1 -> 1 hold
+open 0 -> 1 hold
+packet 0 run 4 -> 1 to 4
+unsettled -> 1 hold
+packet 0 run 4 -> 1 hold
+record 1 -> no
+record 1 hit -> no
+unsettled -> no";
 
 #[test]
-fn a_run_without_a_time_goes_to_the_end(rt: HostRuntime) -> Result<(), Fail> {
-    goes(
-        &rt,
-        rt.alloc(),
-        512,
-        &[
-            (Entry::Record(1, false), 1, Goal::Hold),
-            (Entry::Open(0), 1, Goal::Hold),
-            (Entry::Packet(0, LOOK), 1, Goal::Hold),
-            (Entry::Packet(0, LOOK), 1, Goal::Hold),
-            (Entry::Packet(0, Act::Run(512, NONE)), 1, to(512)),
-            (Entry::Record(256, false), 257, to(512)),
-            (Entry::Packet(0, LOOK), 257, to(512)),
-            (Entry::Record(255, false), 512, Goal::Hold),
-            (Entry::Packet(0, LOOK), 512, Goal::Hold),
-            (Entry::Packet(0, LOOK), 512, Goal::Hold),
-            (Entry::Packet(0, LOOK), 512, Goal::Hold),
-            (Entry::Close(0, Why::Ended), 512, Goal::Hold),
-            (Entry::End, 512, Goal::Over),
-        ],
-        "record 1\nopen 0\npacket 0\npacket 0\npacket 0 run 512\nrecord 256\npacket 0\nrecord 255\npacket 0\npacket 0\npacket 0\nclose 0 ended\nend\n",
-    )
+fn what_may_come_next_and_what_may_not(rt: HostRuntime) -> Result<(), Fail> {
+    for section in HISTORIES.split("\n\n") {
+        history_goes(&rt, rt.alloc(), section)?;
+    }
+    Ok(())
 }
 
-#[test]
-fn a_run_to_what_is_recorded_reaches_its_goal_at_once(rt: HostRuntime) -> Result<(), Fail> {
-    goes(
-        &rt,
-        rt.alloc(),
-        6,
-        &[
-            (Entry::Record(1, false), 1, Goal::Hold),
-            (Entry::Open(0), 1, Goal::Hold),
-            (Entry::Packet(0, LOOK), 1, Goal::Hold),
-            (Entry::Packet(0, Act::Run(4, NONE)), 1, to(4)),
-            (Entry::Record(3, false), 4, Goal::Hold),
-            (Entry::Packet(0, LOOK), 4, Goal::Hold),
-            (Entry::Packet(0, Act::Run(4, NONE)), 4, Goal::Hold),
-            (Entry::Packet(0, Act::Run(0, BOTH)), 4, Goal::Hold),
-        ],
-        "record 1\nopen 0\npacket 0\npacket 0 run 4\nrecord 3\npacket 0\npacket 0 run 4\npacket 0 run 0 assert assume\n",
-    )
-}
-
-#[test]
-fn a_pause_and_a_shorter_run(rt: HostRuntime) -> Result<(), Fail> {
-    goes(
-        &rt,
-        rt.alloc(),
-        512,
-        &[
-            (Entry::Record(1, false), 1, Goal::Hold),
-            (Entry::Open(0), 1, Goal::Hold),
-            (Entry::Packet(0, Act::Run(100, NONE)), 1, to(100)),
-            (Entry::Record(64, false), 65, to(100)),
-            (Entry::Packet(0, Act::Pause), 65, Goal::Hold),
-            (Entry::Packet(0, Act::Run(70, NONE)), 65, to(70)),
-            (Entry::Record(5, false), 70, Goal::Hold),
-        ],
-        "record 1\nopen 0\npacket 0 run 100\nrecord 64\npacket 0 pause\npacket 0 run 70\nrecord 5\n",
-    )
-}
-
-#[test]
-fn a_run_stops_at_a_hit(rt: HostRuntime) -> Result<(), Fail> {
-    let assumes = Kinds {
-        asserts: false,
-        assumes: true,
-    };
-    goes(
-        &rt,
-        rt.alloc(),
-        9,
-        &[
-            (Entry::Record(1, false), 1, Goal::Hold),
-            (Entry::Open(0), 1, Goal::Hold),
-            (Entry::Open(1), 1, Goal::Hold),
-            (
-                Entry::Packet(1, Act::Run(9, ASSERTS)),
-                1,
-                Goal::To(9, ASSERTS),
-            ),
-            (Entry::Record(2, false), 3, Goal::To(9, ASSERTS)),
-            (Entry::Record(1, true), 4, Goal::Hold),
-            (
-                Entry::Packet(0, Act::Run(5, assumes)),
-                4,
-                Goal::To(5, assumes),
-            ),
-            (Entry::Record(1, true), 5, Goal::Hold),
-        ],
-        "record 1\nopen 0\nopen 1\npacket 1 run 9 assert\nrecord 2\nrecord 1 hit\npacket 0 run 5 assume\nrecord 1 hit\n",
-    )
-}
-
-/// Where an assertion fires at samples 3 and 4 of six, a run that stops at assertions stops there and
-/// goes to the end behind them, while one that stops at assumptions goes to the end at once.
-#[test]
-fn runs_that_stop_at_assertions_or_assumptions(rt: HostRuntime) -> Result<(), Fail> {
-    let assumes = Kinds {
-        asserts: false,
-        assumes: true,
-    };
-    goes(
-        &rt,
-        rt.alloc(),
-        6,
-        &[
-            (Entry::Record(1, false), 1, Goal::Hold),
-            (Entry::Open(0), 1, Goal::Hold),
-            (Entry::Packet(0, LOOK), 1, Goal::Hold),
-            (
-                Entry::Packet(0, Act::Run(6, ASSERTS)),
-                1,
-                Goal::To(6, ASSERTS),
-            ),
-            (Entry::Record(3, true), 4, Goal::Hold),
-            (
-                Entry::Packet(0, Act::Run(6, ASSERTS)),
-                4,
-                Goal::To(6, ASSERTS),
-            ),
-            (Entry::Record(1, true), 5, Goal::Hold),
-            (
-                Entry::Packet(0, Act::Run(6, ASSERTS)),
-                5,
-                Goal::To(6, ASSERTS),
-            ),
-            (Entry::Record(1, false), 6, Goal::Hold),
-            (Entry::Close(0, Why::Ended), 6, Goal::Hold),
-            (Entry::End, 6, Goal::Over),
-        ],
-        "record 1\nopen 0\npacket 0\npacket 0 run 6 assert\nrecord 3 hit\npacket 0 run 6 assert\nrecord 1 hit\npacket 0 run 6 assert\nrecord 1\nclose 0 ended\nend\n",
-    )?;
-    goes(
-        &rt,
-        rt.alloc(),
-        6,
-        &[
-            (Entry::Record(1, false), 1, Goal::Hold),
-            (Entry::Open(0), 1, Goal::Hold),
-            (Entry::Packet(0, LOOK), 1, Goal::Hold),
-            (
-                Entry::Packet(0, Act::Run(6, assumes)),
-                1,
-                Goal::To(6, assumes),
-            ),
-            (Entry::Record(5, false), 6, Goal::Hold),
-            (Entry::Close(0, Why::Ended), 6, Goal::Hold),
-            (Entry::End, 6, Goal::Over),
-        ],
-        "record 1\nopen 0\npacket 0\npacket 0 run 6 assume\nrecord 5\nclose 0 ended\nend\n",
-    )
-}
+const GONE: &str = "close 18446744073709551615 ended
+close 18446744073709551615 fault
+close 18446744073709551615 too_long
+close 18446744073709551615 slow
+close 18446744073709551615 limit
+close 18446744073709551615 memory
+close 18446744073709551615 over
+";
 
 #[test]
 fn a_client_is_gone_for_a_reason(rt: HostRuntime) -> Result<(), Fail> {
-    let reasons = [
-        Why::Ended,
-        Why::Fault,
-        Why::TooLong,
-        Why::Slow,
-        Why::Limit,
-        Why::Memory,
-        Why::Over,
-    ];
     let mut entries = Vec::new(rt.alloc());
-    for why in reasons {
-        entries.push(Entry::Close(18446744073709551615, why))?;
+    for line in GONE.lines() {
+        if let Some(entry) = entry_of(line) {
+            entries.push(entry)?;
+        }
     }
     let history = History::new(entries);
     let text = log_text(rt.alloc(), &history)?;
-    let want: &[u8] = b"close 18446744073709551615 ended\nclose 18446744073709551615 fault
-close 18446744073709551615 too_long\nclose 18446744073709551615 slow\nclose 18446744073709551615 limit
-close 18446744073709551615 memory\nclose 18446744073709551615 over\n";
-    assert_eq!(rt; text.as_slice(), want);
-    assert_eq!(rt; history.into_list().len(), reasons.len());
+    assert_eq!(rt; text.as_slice(), GONE.as_bytes());
+    assert_eq!(rt; history.into_list().len(), 7);
     Ok(())
-}
-
-fn after(rt: &impl Abort, alloc: Global, entries: &[Entry]) -> Result<Hall, Fail> {
-    let mut hall = Hall::new(alloc, 9)?;
-    for entry in entries {
-        assert!(rt; hall.allows(*entry), "{entry:?}");
-        hall.step(*entry)?;
-    }
-    Ok(hall)
-}
-
-fn none_is_allowed(
-    rt: &impl Abort,
-    alloc: Global,
-    before: &[Entry],
-    entries: &[Entry],
-) -> Result<(), Fail> {
-    let hall = after(rt, alloc, before)?;
-    for entry in entries {
-        assert!(rt; !hall.allows(*entry), "{entry:?}");
-    }
-    Ok(())
-}
-
-const FIRST: Entry = Entry::Record(1, false);
-
-const ASKED: Entry = Entry::Packet(0, Act::Run(4, NONE));
-
-#[test]
-fn what_may_not_begin(rt: HostRuntime) -> Result<(), Fail> {
-    let entries = [
-        Entry::Open(0),
-        Entry::Packet(0, LOOK),
-        Entry::Packet(0, Act::Run(1, NONE)),
-        Entry::Record(0, false),
-        Entry::Record(1, true),
-        Entry::Record(2, false),
-        Entry::Close(0, Why::Ended),
-        Entry::End,
-    ];
-    none_is_allowed(&rt, rt.alloc(), &[], &entries)
-}
-
-#[test]
-fn what_may_not_follow_sample_0_that_does_not_settle(rt: HostRuntime) -> Result<(), Fail> {
-    let entries = [
-        Entry::Open(0),
-        Entry::Packet(0, LOOK),
-        FIRST,
-        Entry::Unsettled,
-        Entry::Close(0, Why::Ended),
-    ];
-    none_is_allowed(&rt, rt.alloc(), &[Entry::Unsettled], &entries)
-}
-
-#[test]
-fn what_may_not_follow_the_end(rt: HostRuntime) -> Result<(), Fail> {
-    let entries = [
-        Entry::Open(0),
-        Entry::Open(1),
-        Entry::Packet(0, LOOK),
-        FIRST,
-        Entry::Unsettled,
-        Entry::Close(0, Why::Ended),
-        Entry::End,
-    ];
-    none_is_allowed(&rt, rt.alloc(), &[Entry::Unsettled, Entry::End], &entries)?;
-    none_is_allowed(&rt, rt.alloc(), &[FIRST, Entry::End], &entries)
-}
-
-#[test]
-fn a_client_is_open_from_its_open_to_its_close(rt: HostRuntime) -> Result<(), Fail> {
-    let closed = Entry::Close(0, Why::Fault);
-    none_is_allowed(
-        &rt,
-        rt.alloc(),
-        &[FIRST],
-        &[Entry::Open(1), Entry::Packet(0, LOOK), closed],
-    )?;
-    let others = [
-        Entry::Open(0),
-        Entry::Open(2),
-        Entry::Packet(1, LOOK),
-        Entry::Close(1, Why::Ended),
-        Entry::Packet(18446744073709551615, LOOK),
-        Entry::End,
-    ];
-    none_is_allowed(&rt, rt.alloc(), &[FIRST, Entry::Open(0)], &others)?;
-    let after = [Entry::Open(0), Entry::Packet(0, LOOK), closed];
-    none_is_allowed(&rt, rt.alloc(), &[FIRST, Entry::Open(0), closed], &after)?;
-    none_is_allowed(
-        &rt,
-        rt.alloc(),
-        &[FIRST, Entry::Open(0), Entry::Open(1), closed],
-        &[Entry::End],
-    )
-}
-
-#[test]
-fn what_the_goal_does_not_let_be_recorded(rt: HostRuntime) -> Result<(), Fail> {
-    let held = [
-        Entry::Record(1, false),
-        Entry::Record(1, true),
-        Entry::Unsettled,
-    ];
-    none_is_allowed(&rt, rt.alloc(), &[FIRST], &held)?;
-    let open = Entry::Open(0);
-    let past = [
-        Entry::Record(0, false),
-        Entry::Record(4, false),
-        Entry::Record(18446744073709551615, false),
-        Entry::Packet(0, Act::Run(10, NONE)),
-    ];
-    none_is_allowed(&rt, rt.alloc(), &[FIRST, open, ASKED], &past)?;
-    let pause = Entry::Packet(0, Act::Pause);
-    none_is_allowed(&rt, rt.alloc(), &[FIRST, open, ASKED, pause], &held)?;
-    none_is_allowed(
-        &rt,
-        rt.alloc(),
-        &[FIRST, open, ASKED, Entry::Record(3, false)],
-        &held,
-    )?;
-    none_is_allowed(
-        &rt,
-        rt.alloc(),
-        &[FIRST, open, ASKED, Entry::Record(1, true)],
-        &held,
-    )?;
-    none_is_allowed(
-        &rt,
-        rt.alloc(),
-        &[FIRST, open, ASKED, Entry::Unsettled, ASKED],
-        &held,
-    )
 }
 
 #[test]
 fn steps_that_room_was_made_for(rt: HostRuntime) -> Result<(), Fail> {
-    let mut hall = after(&rt, rt.alloc(), &[FIRST])?;
+    let mut hall = Hall::new(rt.alloc(), 9)?;
+    assert!(rt; goes(&rt, rt.alloc(), &mut hall, "record 1 -> 1 hold")?);
     hall.reserve(100)?;
     for client in 0..100 {
         let entry = Entry::Open(client);
