@@ -4,43 +4,59 @@ use sim_base::Name;
 use sqlite_items::Items;
 use std::test::Fail;
 
+const KINDS: [DesignKind; 16] = [
+    DesignKind::NoTop,
+    DesignKind::ManyTops,
+    DesignKind::UnknownName,
+    DesignKind::DuplicateName,
+    DesignKind::UnknownCell,
+    DesignKind::BadParameter,
+    DesignKind::Width,
+    DesignKind::Inout,
+    DesignKind::TooWide,
+    DesignKind::ArithTooWide,
+    DesignKind::RecursiveModules,
+    DesignKind::TooLarge,
+    DesignKind::ConstTarget,
+    DesignKind::TwoDrivers,
+    DesignKind::CombLoop,
+    DesignKind::NoMemory,
+];
+
+/// The words of the kinds in turn.
+const WORDS: &str = "no module is the top
+several modules are the top
+a name that is not there
+a name that stands twice
+a cell of an unknown type
+a parameter that is missing, out of range or not taken
+a width that does not fit
+a wire of no one direction
+more than 65536 bits
+more than 128 bits at an arithmetic cell
+a module inside itself
+more parts than are taken
+a constant that would be driven
+two drivers of one bit
+a bit that depends on itself
+out of memory";
+
 #[test]
 fn faults_have_their_numbers_names_and_words(rt: HostRuntime) -> Result<(), Fail> {
     assert!(&rt; DesignKind::CombLoop.number() == Some(24));
     assert!(&rt; DesignKind::CombLoop.name() == "CombLoop");
     assert!(&rt; DesignKind::NoMemory.number() == None);
-    let rows: [(DesignKind, &str); 16] = [
-        (DesignKind::NoTop, "no module is the top"),
-        (DesignKind::ManyTops, "several modules are the top"),
-        (DesignKind::UnknownName, "a name that is not there"),
-        (DesignKind::DuplicateName, "a name that stands twice"),
-        (DesignKind::UnknownCell, "a cell of an unknown type"),
-        (
-            DesignKind::BadParameter,
-            "a parameter that is missing, out of range or not taken",
-        ),
-        (DesignKind::Width, "a width that does not fit"),
-        (DesignKind::Inout, "a wire of no one direction"),
-        (DesignKind::TooWide, "more than 65536 bits"),
-        (
-            DesignKind::ArithTooWide,
-            "more than 128 bits at an arithmetic cell",
-        ),
-        (DesignKind::RecursiveModules, "a module inside itself"),
-        (DesignKind::TooLarge, "more parts than are taken"),
-        (DesignKind::ConstTarget, "a constant that would be driven"),
-        (DesignKind::TwoDrivers, "two drivers of one bit"),
-        (DesignKind::CombLoop, "a bit that depends on itself"),
-        (DesignKind::NoMemory, "out of memory"),
-    ];
-    for (kind, text) in rows {
+    let mut words = WORDS.lines();
+    for kind in KINDS {
         let fault = DesignFault {
             kind,
             place: Name::new(Vec::new(rt.alloc())),
             bits: Items::new(rt.alloc()),
             drives: Items::new(rt.alloc()),
         };
+        let text = words.next().unwrap_or("");
         assert_eq!(&rt; fault.to_string(rt.alloc())?.as_str(), text);
     }
+    assert!(&rt; words.next().is_none());
     Ok(())
 }

@@ -4,14 +4,10 @@
 #[cfg(test)]
 mod faults;
 #[cfg(test)]
-mod lists;
-#[cfg(test)]
 mod order;
-#[cfg(test)]
-mod parts;
 #[cfg(test)]
 mod plans;
 #[cfg(test)]
-mod signals;
+mod validity;
 #[cfg(test)]
 mod whole;

@@ -1,205 +1,128 @@
 //! Circuits that have an order, and circuits that have none.
-use crate::parts::{CONSTANT, Driver, Part, bits, cell, put, register, scope, value};
-use crate::whole::{empty, put_drives, put_nets, read_port};
-use circuit::{By, Circuit, DesignKind, Mem, Op};
+use circuit::{BitAt, By, Circuit, DesignFault, DesignKind};
 use driver_check::Node;
 use eval_plan::{Plan, order};
-use sqlite_items::Items;
 use std::alloc::AllocGlobal;
 use std::process::Abort;
+use test_circuits::{Line, circuit_of};
 
-/// The names and widths of nets.
-type NetRow<'a> = (&'a str, u32);
-
-/// The width of a `$xor` cell and its operands.
-type CellRow = (u32, Part, Part);
-
-/// A circuit of these nets, drives and cells.
-pub fn made<R: AllocGlobal + Abort>(
-    rt: &R,
-    nets: &[NetRow],
-    drives: &[(Part, Driver)],
-    cells: &[CellRow],
-) -> Circuit {
-    let mut circuit = empty(rt);
-    put(rt, &mut circuit.scopes, scope(rt, [b"", b"", b"", b""]));
-    put_nets(rt, &mut circuit, nets);
-    put_drives(rt, &mut circuit, drives);
-    put_cells(rt, &mut circuit, cells);
-    circuit
+/// The circuit of a text that is a valid one.
+fn valid_of<R: AllocGlobal + Abort>(rt: &R, text: &str) -> Circuit {
+    circuit_of(rt.alloc(), text).expect(rt, "a circuit")
 }
 
-fn put_cells<R: AllocGlobal + Abort>(rt: &R, circuit: &mut Circuit, rows: &[CellRow]) {
-    for (width, a, b) in rows {
-        put(rt, &mut circuit.cells, cell(rt, Op::Xor, *width, *a, *b));
+pub fn plan_of<R: AllocGlobal + Abort>(rt: &R, text: &str) -> Plan {
+    let circuit = valid_of(rt, text);
+    assert!(rt; circuit.validate());
+    order(rt.alloc(), &circuit).expect(rt, "an order")
+}
+
+/// The fault of a circuit that has no order.
+fn fault_of<R: AllocGlobal + Abort>(rt: &R, text: &str) -> DesignFault {
+    let circuit = valid_of(rt, text);
+    assert!(rt; circuit.validate());
+    order(rt.alloc(), &circuit).err().expect(rt, "a fault")
+}
+
+/// Whether a bit is that of a word, a net and the bit's number.
+fn is_bit(bit: &BitAt, word: &str) -> bool {
+    match word.split_once(':') {
+        Some((net, at)) => {
+            bit.net.as_bytes() == net.as_bytes() && at.parse::<u32>().ok() == Some(bit.bit)
+        }
+        None => false,
     }
 }
 
-/// A memory of two rows of one bit with two read ports, the first without a clock, whose addresses are these nets.
-pub fn memory<R: AllocGlobal + Abort>(rt: &R, shown: u32, kept: u32) -> Mem {
-    let mut memory = Mem {
-        width: 1,
-        size: 2,
-        offset: 0,
-        init: value(rt, 2, 0),
-        reads: Items::new(rt.alloc()),
-        writes: Items::new(rt.alloc()),
-    };
-    let mut first = read_port(rt, false, (shown, 0, 1), (1, 0));
-    first.see = Items::new(rt.alloc());
-    put(rt, &mut memory.reads, first);
-    let mut second = read_port(rt, true, (kept, 0, 1), (1, 0));
-    second.see = Items::new(rt.alloc());
-    put(rt, &mut memory.reads, second);
-    memory
+/// Whether these are the bits of a word, which `,` parts.
+fn are_bits(bits: &[BitAt], word: &str) -> bool {
+    let mut words = word.split(',');
+    for bit in bits {
+        match words.next() {
+            Some(word) if is_bit(bit, word) => (),
+            _ => return false,
+        }
+    }
+    words.next().is_none()
 }
 
-pub fn plan_of<R: AllocGlobal + Abort>(rt: &R, circuit: &Circuit) -> Plan {
-    assert!(rt; circuit.validate());
-    order(rt.alloc(), circuit).expect(rt, "an order")
-}
-
-/// Checks that a circuit has no order, since of these bits the first has two drivers or each depends on the next one.
-fn check_fault<R: AllocGlobal + Abort>(
-    rt: &R,
-    circuit: &Circuit,
-    kind: DesignKind,
-    rows: &[NetRow],
-    drives: &[u64],
-) {
-    assert!(rt; circuit.validate());
-    let fault = order(rt.alloc(), circuit).err().expect(rt, "a fault");
-    assert!(rt; fault.kind == kind);
-    assert!(rt; fault.place.is_empty());
-    assert_eq!(rt; fault.drives.as_slice(), drives);
-    let bits = fault.bits.as_slice();
-    assert!(rt; bits.len() == rows.len());
-    for n in 0..bits.len() {
-        assert!(rt; bits[n].net.as_bytes() == rows[n].0.as_bytes());
-        assert!(rt; bits[n].bit == rows[n].1);
+/// Checks rows of bits, of which the first has two drivers or each depends on the next one, drives, and the circuit.
+fn check_faults<R: AllocGlobal + Abort>(rt: &R, kind: DesignKind, rows: &str) {
+    for row in rows.lines() {
+        let (bits, rest) = row.split_once(' ').unwrap_or((row, ""));
+        let (drives, text) = rest.split_once(' ').unwrap_or((rest, ""));
+        let fault = fault_of(rt, text);
+        assert!(rt; fault.kind == kind && fault.place.is_empty(), "{row}");
+        assert!(rt; are_bits(fault.bits.as_slice(), bits), "{row}");
+        let wanted = Line::new(rt.alloc(), drives).hexadecimals();
+        let wanted = wanted.expect(rt, "numbers");
+        assert!(rt; fault.drives.as_slice() == wanted.as_slice(), "{row}");
     }
 }
 
-const ONE_BIT_EACH: [NetRow; 3] = [("\\a", 1), ("\\b", 1), ("\\q", 1)];
+const TWO_DRIVERS: &str =
+    "\\q:0 0,1 scope - -;net \\a 1;net \\b 1;net \\q 1;drive 2[0+:1] wire 0 0;drive 2[0+:1] cell 0 0;cell xor - 1 0 0[0+:1] 1[0+:1]
+\\w:3 2,3 scope - -;net \\a 4;net \\w 8;drive 1[4+:4] const 4'5;drive 1[5+:2] const 2'1;drive 1[0+:4] const 4'5;drive 1[3+:2] const 2'1;drive 1[3+:1] wire 0 0";
+
+/// Cells, parts of nets, wires, and a memory.
+const LOOPS: &str =
+    "\\a:0,\\b:0 - scope - -;net \\a 1;net \\b 1;net \\q 1;drive 0[0+:1] cell 0 0;drive 1[0+:1] cell 1 0;cell xor - 1 0 1[0+:1] 2[0+:1];cell xor - 1 0 0[0+:1] 2[0+:1]
+\\q:1 - scope - -;net \\g 2;net \\q 2;drive 1[0+:2] cell 0 0;cell xor - 2 0 0[0+:2] 1[1+:1]
+\\q:0,\\p:1 - scope - -;net \\g 1;net \\p 2;net \\q 2;drive 1[0+:2] cell 0 0;drive 2[0+:2] cell 1 0;cell xor - 2 0 0[0+:1] 2[0+:1];cell xor - 2 0 0[0+:1] 1[1+:1]
+\\b:0,\\q:0 - scope - -;net \\a 1;net \\b 1;net \\q 1;drive 0[0+:1] wire 1 0;drive 1[0+:1] wire 2 0;drive 2[0+:1] wire 1 0
+\\w:2 - scope - -;net \\w 3;drive 0[2+:1] wire 0 2
+\\a:0,\\b:0 - scope - -;net \\a 1;net \\b 1;net \\q 1;drive 0[0+:1] read 0 0 0;drive 1[0+:1] wire 0 0;mem 1 2 0 2'0;read 0 1 - 1'0 0[0+:1] 1'1 1[0+:1];read 1 1 - 1'0 0[0+:1] 1'1 0[0+:1]";
 
 #[test]
-fn two_drives_of_a_bit_are_found(rt: HostRuntime) {
-    let joined = made(
-        &rt,
-        &ONE_BIT_EACH,
-        &[
-            ((2, 0, 1), Driver::Wire(0, 0)),
-            ((2, 0, 1), Driver::Cell(0, 0)),
-        ],
-        &[(1, (0, 0, 1), (1, 0, 1))],
-    );
-    let kind = DesignKind::TwoDrivers;
-    check_fault(&rt, &joined, kind, &[("\\q", 0)], &[0, 1]);
-    let overlapping = made(
-        &rt,
-        &[("\\a", 4), ("\\w", 8)],
-        &[
-            ((1, 4, 4), Driver::Const(4)),
-            ((1, 5, 2), Driver::Const(2)),
-            ((1, 0, 4), Driver::Const(4)),
-            ((1, 3, 2), Driver::Const(2)),
-            ((1, 3, 1), Driver::Wire(0, 0)),
-        ],
-        &[],
-    );
-    check_fault(&rt, &overlapping, kind, &[("\\w", 3)], &[2, 3]);
+fn two_drives_of_a_bit_and_loops_are_found(rt: HostRuntime) {
+    check_faults(&rt, DesignKind::TwoDrivers, TWO_DRIVERS);
+    check_faults(&rt, DesignKind::CombLoop, LOOPS);
 }
 
-#[test]
-fn a_bit_that_depends_on_itself_is_found(rt: HostRuntime) {
-    let kind = DesignKind::CombLoop;
-    let two_cells = made(
-        &rt,
-        &ONE_BIT_EACH,
-        &[
-            ((0, 0, 1), Driver::Cell(0, 0)),
-            ((1, 0, 1), Driver::Cell(1, 0)),
-        ],
-        &[(1, (1, 0, 1), (2, 0, 1)), (1, (0, 0, 1), (2, 0, 1))],
-    );
-    check_fault(&rt, &two_cells, kind, &[("\\a", 0), ("\\b", 0)], &[]);
-    let own_bit = made(
-        &rt,
-        &[("\\g", 2), ("\\q", 2)],
-        &[((1, 0, 2), Driver::Cell(0, 0))],
-        &[(2, (0, 0, 2), (1, 1, 1))],
-    );
-    check_fault(&rt, &own_bit, kind, &[("\\q", 1)], &[]);
-    let other_bits = made(
-        &rt,
-        &[("\\g", 1), ("\\p", 2), ("\\q", 2)],
-        &[
-            ((1, 0, 2), Driver::Cell(0, 0)),
-            ((2, 0, 2), Driver::Cell(1, 0)),
-        ],
-        &[(2, (0, 0, 1), (2, 0, 1)), (2, (0, 0, 1), (1, 1, 1))],
-    );
-    check_fault(&rt, &other_bits, kind, &[("\\q", 0), ("\\p", 1)], &[]);
-}
+/// Two cells, of which the first takes from the second.
+const BACKWARD: &str = "scope - -
+net \\a 1
+net \\b 1
+net \\q 1
+drive 1[0+:1] cell 1 0
+drive 2[0+:1] cell 0 0
+cell xor - 1 0 1[0+:1] 0[0+:1]
+cell xor - 1 0 0[0+:1] 0[0+:1]";
 
-#[test]
-fn a_loop_of_wires_or_through_a_memory_is_found(rt: HostRuntime) {
-    let kind = DesignKind::CombLoop;
-    let wires = made(
-        &rt,
-        &ONE_BIT_EACH,
-        &[
-            ((0, 0, 1), Driver::Wire(1, 0)),
-            ((1, 0, 1), Driver::Wire(2, 0)),
-            ((2, 0, 1), Driver::Wire(1, 0)),
-        ],
-        &[],
-    );
-    check_fault(&rt, &wires, kind, &[("\\b", 0), ("\\q", 0)], &[]);
-    let itself = made(&rt, &[("\\w", 3)], &[((0, 2, 1), Driver::Wire(0, 2))], &[]);
-    check_fault(&rt, &itself, kind, &[("\\w", 2)], &[]);
-    let mut through = made(
-        &rt,
-        &ONE_BIT_EACH,
-        &[
-            ((0, 0, 1), Driver::Read(0, 0, 0)),
-            ((1, 0, 1), Driver::Wire(0, 0)),
-        ],
-        &[],
-    );
-    put(&rt, &mut through.mems, memory(&rt, 1, 0));
-    check_fault(&rt, &through, kind, &[("\\a", 0), ("\\b", 0)], &[]);
-}
+/// A cell that takes from a read port, and another port with a clock.
+const THROUGH_MEMORY: &str = "scope - -
+net \\a 1
+net \\b 1
+net \\q 1
+drive 0[0+:1] read 0 1 0
+drive 1[0+:1] read 0 0 0
+drive 2[0+:1] cell 0 0
+cell xor - 1 0 1[0+:1] 0[0+:1]
+mem 1 2 0 2'0
+read 0 1 - 1'0 0[0+:1] 1'1 0[0+:1]
+read 1 1 - 1'0 0[0+:1] 1'1 2[0+:1]";
 
 #[test]
 fn nodes_stand_behind_what_they_depend_on(rt: HostRuntime) {
-    let backward = made(
-        &rt,
-        &ONE_BIT_EACH,
-        &[
-            ((1, 0, 1), Driver::Cell(1, 0)),
-            ((2, 0, 1), Driver::Cell(0, 0)),
-        ],
-        &[(1, (1, 0, 1), (0, 0, 1)), (1, (0, 0, 1), (0, 0, 1))],
-    );
-    let plan = plan_of(&rt, &backward);
+    let plan = plan_of(&rt, BACKWARD);
     let wanted = [Node::Cell(1), Node::Cell(0)];
     assert!(&rt; plan.nodes.as_slice() == wanted.as_slice());
-    let mut through = made(
-        &rt,
-        &ONE_BIT_EACH,
-        &[
-            ((0, 0, 1), Driver::Read(0, 1, 0)),
-            ((1, 0, 1), Driver::Read(0, 0, 0)),
-            ((2, 0, 1), Driver::Cell(0, 0)),
-        ],
-        &[(1, (1, 0, 1), (0, 0, 1))],
-    );
-    put(&rt, &mut through.mems, memory(&rt, 0, 2));
-    let plan = plan_of(&rt, &through);
+    let plan = plan_of(&rt, THROUGH_MEMORY);
     let wanted = [Node::Read(0, 0), Node::Cell(0)];
     assert!(&rt; plan.nodes.as_slice() == wanted.as_slice());
 }
+
+/// Nets that take from a cell through others.
+const WIRES: &str = "scope - -
+net \\g 2
+net \\p 4
+net \\q 4
+net \\r 6
+drive 3[0+:4] wire 2 0
+drive 2[0+:2] wire 1 2
+drive 2[2+:2] wire 0 0
+drive 1[0+:4] cell 0 1
+cell xor - 5 0 0[0+:2] 0[0+:2]";
 
 /// What a root takes of a cell.
 fn taken_of(by: &By) -> Option<(u32, u32)> {
@@ -211,28 +134,13 @@ fn taken_of(by: &By) -> Option<(u32, u32)> {
 
 #[test]
 fn roots_go_through_wires(rt: HostRuntime) {
-    let circuit = made(
-        &rt,
-        &[("\\g", 2), ("\\p", 4), ("\\q", 4), ("\\r", 6)],
-        &[
-            ((3, 0, 4), Driver::Wire(2, 0)),
-            ((2, 0, 2), Driver::Wire(1, 2)),
-            ((2, 2, 2), Driver::Wire(0, 0)),
-            ((1, 0, 4), Driver::Cell(0, 1)),
-        ],
-        &[(5, (0, 0, 2), (0, 0, 2))],
-    );
-    let plan = plan_of(&rt, &circuit);
-    let roots = plan.roots.as_slice();
-    let wanted: [(Part, (u32, u32)); 3] = [
-        ((3, 0, 2), (0, 3)),
-        ((2, 0, 2), (0, 3)),
-        ((1, 0, 4), (0, 1)),
-    ];
-    assert!(&rt; roots.len() == wanted.len());
-    for n in 0..roots.len() {
-        let root = &roots[n];
-        assert!(&rt; (root.net, root.at, root.width) == wanted[n].0);
-        assert!(&rt; taken_of(&root.by) == Some(wanted[n].1));
+    let plan = plan_of(&rt, WIRES);
+    let mut wanted = Line::new(rt.alloc(), "3[0+:2] 2[0+:2] 1[0+:4]");
+    let mut first_bits = Line::new(rt.alloc(), "3 3 1");
+    for root in plan.roots.as_slice() {
+        assert!(&rt; Some((root.net, root.at, root.width)) == wanted.part());
+        let first = first_bits.number().expect(&rt, "a number");
+        assert!(&rt; taken_of(&root.by) == Some((0, first)));
     }
+    assert!(&rt; wanted.word().is_none());
 }

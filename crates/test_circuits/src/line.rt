@@ -41,6 +41,18 @@ impl<'a> Line<'a> {
         u64::from_str_radix(self.word()?, 16).ok()
     }
 
+    /// Numbers in hexadecimal digits, which `,` parts; `-` are none.
+    pub fn hexadecimals(&mut self) -> Option<Vec<u64>> {
+        let mut numbers = Vec::new(self.alloc);
+        let word = self.word()?;
+        if word != "-" {
+            for digits in word.split(',') {
+                numbers.push(u64::from_str_radix(digits, 16).ok()?).ok()?;
+            }
+        }
+        Some(numbers)
+    }
+
     /// A flag, which is `0` or `1`.
     pub fn flag(&mut self) -> Option<bool> {
         flag_of(self.word()?.as_bytes(), 0)
