@@ -16,4 +16,6 @@ pub use run::{PieceReader, one_piece};
 pub use sign::{are_signed, is_negative};
 pub use signal::{sig_bit, sig_field, sig_word};
 pub use values::{SigWord, is_one_word, ones_word};
-pub use word::{one_word, whole_sig_word, whole_value, whole_word, word_of, word_of_whole};
+pub use word::{
+    one_word, whole_sig_word, whole_value, whole_value_of_width, whole_word, word_of, word_of_whole,
+};

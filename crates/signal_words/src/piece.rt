@@ -4,6 +4,7 @@ ghost use Rattle.sim_base.specs.BitValue.{bit_value};
 ghost use Rattle.circuit.specs.Signal.{piece_number, piece_width};
 ghost use Rattle.signal_words.specs.Values.{digits_in, IsInside};
 
+use crate::values::SigWord;
 use circuit::Piece;
 use sim_base::{BitsView, Values};
 
@@ -45,6 +46,27 @@ pub fn piece_word(piece: &Piece, nets: &Values) -> u64
     }
 }
 
+/// The width and the number of a piece of at most 64 bits.
+#[inline(always)]
+pub fn piece_sig_word(piece: &Piece, nets: &Values) -> SigWord
+    requires inside { IsInside nets.now piece.now }
+    requires small { piece_width piece.now ≤ 64 }
+    ensures width { result.width ≡ piece_width piece.now }
+    ensures number { result.number ≡ piece_number (digits_in nets.now) piece.now }
+    ensures below { result.number < 2 ^ piece_width piece.now }
+{
+    match piece {
+        Piece::Const(value) => SigWord {
+            width: value.width(),
+            number: value.word(),
+        },
+        Piece::Part { width, .. } => SigWord {
+            width: *width,
+            number: piece_word(piece, nets),
+        },
+    }
+}
+
 /// The number of a piece that is a whole value of this width, at most 64 bits: a constant, or a net. One look-up tells
 /// whether it is.
 #[inline(always)]
@@ -81,5 +103,23 @@ pub fn piece_value<'a>(piece: &'a Piece, nets: &'a Values) -> Option<BitsView<'a
             }
             None
         }
+    }
+}
+
+/// The value that a piece of this width is: a constant, or a net that the piece is the whole of.
+#[inline(always)]
+pub fn piece_value_of_width<'a>(
+    piece: &'a Piece,
+    nets: &'a Values,
+    width: u32,
+) -> Option<BitsView<'a>>
+    requires { IsInside nets.now piece.now }
+    ensures value { IfSome result (λ value. value ≡ bit_value (piece_width piece.now) (piece_number (digits_in nets.now) piece.now)) }
+    ensures width { IfSome result (λ value. value.width ≡ width) }
+{
+    match piece {
+        Piece::Const(value) if value.width() == width => Some(value.view()),
+        Piece::Part { width: part, .. } if *part == width => piece_value(piece, nets),
+        _ => None,
     }
 }

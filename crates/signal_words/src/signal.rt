@@ -5,7 +5,7 @@ ghost use Rattle.sim_base.specs.BitValue.{digit_of};
 ghost use Rattle.circuit.specs.Signal.{sig_number, sig_width};
 ghost use Rattle.signal_words.specs.Values.{digits_in, AreInside};
 
-use crate::piece::{piece_field, piece_word};
+use crate::piece::{piece_field, piece_sig_word};
 use crate::reader::SigReader;
 use circuit::Piece;
 use sim_base::Values;
@@ -21,12 +21,11 @@ pub fn sig_word(sig: &[Piece], nets: &Values) -> u64
     let mut word = 0u64;
     let mut offset = 0u32;
     for piece in sig {
-        let width = piece.width();
-        let part = piece_word(piece, nets);
-        if width > 0 {
-            word += part << offset;
+        let part = piece_sig_word(piece, nets);
+        if part.width > 0 {
+            word += part.number << offset;
         }
-        offset += width;
+        offset += part.width;
     }
     word
 }

@@ -4,7 +4,7 @@ ghost use Rattle.sim_base.specs.BitValue.{bit_value};
 ghost use Rattle.circuit.specs.Signal.{piece_number, piece_width, sig_value, sig_width};
 ghost use Rattle.signal_words.specs.Values.{digits_in, AreInside, IsInside, IsWordOf};
 
-use crate::piece::{piece_of_width, piece_value, piece_word};
+use crate::piece::{piece_of_width, piece_value, piece_value_of_width, piece_word};
 use crate::signal::sig_word;
 use crate::values::SigWord;
 use circuit::{Piece, sig_width};
@@ -19,12 +19,17 @@ fn word_of_piece(piece: &Piece, nets: &Values) -> Option<SigWord>
     ensures number { IfSome result (λ word. word.number ≡ piece_number (digits_in nets.now) piece.now) }
     ensures below { IfSome result (λ word. word.number < 2 ^ word.width) }
 {
-    let width = piece.width();
-    if width > 64 {
-        return None;
+    match piece {
+        Piece::Const(value) if value.width() <= 64 => Some(SigWord {
+            width: value.width(),
+            number: value.word(),
+        }),
+        Piece::Part { width, .. } if *width <= 64 => Some(SigWord {
+            width: *width,
+            number: piece_word(piece, nets),
+        }),
+        _ => None,
     }
-    let number = piece_word(piece, nets);
-    Some(SigWord { width, number })
 }
 
 /// The width and the number of a piece that is a whole value of at most 64 bits: a constant, or a net.
@@ -36,13 +41,19 @@ fn word_of_whole_piece(piece: &Piece, nets: &Values) -> Option<SigWord>
     ensures number { IfSome result (λ word. word.number ≡ piece_number (digits_in nets.now) piece.now) }
     ensures below { IfSome result (λ word. word.number < 2 ^ word.width) }
 {
-    let width = piece.width();
-    if width > 64 {
-        return None;
-    }
-    match piece_of_width(piece, nets, width) {
-        Some(number) => Some(SigWord { width, number }),
-        None => None,
+    match piece {
+        Piece::Const(value) if value.width() <= 64 => Some(SigWord {
+            width: value.width(),
+            number: value.word(),
+        }),
+        Piece::Part { width, .. } if *width <= 64 => {
+            let number = piece_of_width(piece, nets, *width)?;
+            Some(SigWord {
+                width: *width,
+                number,
+            })
+        }
+        _ => None,
     }
 }
 
@@ -115,6 +126,23 @@ pub fn whole_value<'a>(sig: &'a [Piece], nets: &'a Values) -> Option<BitsView<'a
 {
     match sig {
         [piece] => piece_value(piece, nets),
+        _ => None,
+    }
+}
+
+/// The value that a signal of this width is, where it is one piece: a constant, or a whole net.
+#[inline(always)]
+pub fn whole_value_of_width<'a>(
+    sig: &'a [Piece],
+    nets: &'a Values,
+    width: u32,
+) -> Option<BitsView<'a>>
+    requires { AreInside nets.now sig.now }
+    ensures value { IfSome result (λ value. value ≡ sig_value (digits_in nets.now) sig.now) }
+    ensures width { IfSome result (λ value. value.width ≡ width) }
+{
+    match sig {
+        [piece] => piece_value_of_width(piece, nets, width),
         _ => None,
     }
 }
