@@ -44,6 +44,12 @@ is_equality op.Eqx = true
 is_equality op.Nex = true
 is_equality _ = false
 
+-- of those that compare for equality, those that tell operands that differ
+abbrev pub tells_difference : Op → Bool
+tells_difference op.Ne = true
+tells_difference op.Nex = true
+tells_difference _ = false
+
 -- those that give a truth value
 abbrev pub is_truth : Op → Bool
 is_truth o = is_reduction o || (is_logic o || is_equality o)

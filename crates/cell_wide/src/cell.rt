@@ -27,7 +27,8 @@ fn written(cell: &Cell, nets: &Values, into: &mut Values, out: u32) -> bool
         Op::Bwmux | Op::Bweqx | Op::Slice | Op::Concat => selection(cell, nets, into, out),
         Op::Not | Op::Pos => unary_values(cell, nets, into, out),
         Op::And | Op::Or | Op::Xor | Op::Xnor => bitwise_values(cell, nets, into, out),
-        Op::Eq | Op::Ne | Op::Eqx | Op::Nex => equality_of_values(cell, nets, into, out),
+        Op::Eq | Op::Eqx => equality_of_values(false, cell, nets, into, out),
+        Op::Ne | Op::Nex => equality_of_values(true, cell, nets, into, out),
         _ => truth_of_values(cell, nets, into, out),
     }
 }

@@ -9,7 +9,7 @@ ghost use Rattle.sim_base.specs.Values.{IsPut, width_at};
 
 use crate::count::lowest;
 use crate::operand::is_zero;
-use crate::values::write_digitwise;
+use crate::values::write_unary;
 use crate::words::{Bitwise, Chain, Fill, Inverse, Pair};
 use crate::write::write;
 use circuit::{Cell, Op, Piece, sig_width};
@@ -59,7 +59,7 @@ fn copy_of_words<'a>(sig: &'a [Piece], nets: &'a Values, into: &mut Values, out:
     match whole_value(sig, nets) {
         Some(value) => {
             let _ = value.width();
-            write_digitwise(Op::Pos, &value, &value, into, out)
+            write_unary(Op::Pos, &value, into, out)
         }
         None => copy_pieces(sig, nets, into, out),
     }

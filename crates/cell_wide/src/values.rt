@@ -1,6 +1,7 @@
 //! Values of one width, digit by digit.
-ghost use Rattle.std.specs.Prelude.{◌≡◌, ◌==◌, ◌<◌, ◌≤◌, ◌^◌, length};
+ghost use Rattle.std.specs.Prelude.{◌≡◌, ◌==◌, ◌<◌, ◌≤◌, ◌^◌, length, true};
 ghost use Rattle.sim_base.specs.Values.{IsPut, width_at, with_number};
+ghost use Rattle.cell_wide.specs.Kinds.{is_bitwise, is_unary};
 ghost use Rattle.cell_wide.specs.Words.{digitwise};
 
 use circuit::Op;
@@ -97,16 +98,17 @@ fn write_words<'a>(
     true
 }
 
-/// Writes what a type of cell makes of two values of the output's width, with a loop of its own for each type, and
-/// tells whether that changed it.
+/// Writes what `$and`, `$or`, `$xor` or `$xnor` makes of two values of the output's width, with a loop of its own for each
+/// type, and tells whether that changed it.
 #[inline(always)]
-pub fn write_digitwise<'a>(
+pub fn write_bitwise<'a>(
     op: Op,
     one: &BitsView<'a>,
     other: &BitsView<'a>,
     into: &mut Values,
     out: u32,
 ) -> bool
+    requires kind { is_bitwise op ≡ true }
     requires there { out < length into.old }
     requires one { one.now.width ≡ width_at into.old out }
     requires other { other.now.width ≡ width_at into.old out }
@@ -116,9 +118,22 @@ pub fn write_digitwise<'a>(
         Op::And => write_words(Op::And, one, other, into, out),
         Op::Or => write_words(Op::Or, one, other, into, out),
         Op::Xor => write_words(Op::Xor, one, other, into, out),
-        Op::Xnor => write_words(Op::Xnor, one, other, into, out),
-        Op::Not => write_words(Op::Not, one, other, into, out),
-        _ => write_words(Op::Pos, one, other, into, out),
+        _ => write_words(Op::Xnor, one, other, into, out),
+    }
+}
+
+/// Writes what `$not` or `$pos` makes of a value of the output's width, with a loop of its own for each type, and tells
+/// whether that changed it.
+#[inline(always)]
+pub fn write_unary<'a>(op: Op, value: &BitsView<'a>, into: &mut Values, out: u32) -> bool
+    requires kind { is_unary op ≡ true }
+    requires there { out < length into.old }
+    requires width { value.now.width ≡ width_at into.old out }
+    ensures { IsPut out (digitwise op (width_at into.old out) value.now.number value.now.number) into.old into.new result }
+{
+    match op {
+        Op::Not => write_words(Op::Not, value, value, into, out),
+        _ => write_words(Op::Pos, value, value, into, out),
     }
 }
 
