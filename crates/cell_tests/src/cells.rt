@@ -2,40 +2,36 @@
 //! no memory.
 ghost use Rattle.std.specs.Prelude.{◌≡◌, ◌<◌, ℕ, length, map, true, false};
 ghost use Rattle.circuit.specs.Valid.{is_valid};
-ghost use Rattle.circuit.specs.declared.netlist.Circuit.{Circuit};
 ghost use Rattle.signal_words.specs.Stores.{IsStoreOf};
+ghost use Rattle.circuit.specs.declared.netlist.Circuit.{Circuit};
 ghost use Rattle.cell_wide.specs.Kinds.{is_wide};
 ghost use Rattle.cell_words.specs.Kinds.{is_arithmetic_or_shift};
 ghost use Rattle.sim_base.specs.Values.{width_at};
 
 use cell_wide::eval_wide;
 use cell_words::eval;
-use circuit::{Cell, Circuit, Net, Op, Piece, Scope, Sig, Store};
+use circuit::{Cell, Circuit, Net, Op, Piece, Sig, Store};
 use signal_words::{law_of_start, law_of_stores};
-use sim_base::{Bits, BitsView, Name, Steps};
+use sim_base::{Bits, Name, Steps};
 use sqlite_items::Items;
 use std::alloc::AllocGlobal;
 use std::marker::Brand;
 use std::process::Abort;
 use std::sync::ledger::{Blank, Ledger};
+use test_circuits::{Line, circuit_of, op_of};
 
 /// How a signal is written.
 #[derive(Clone, Copy)]
-pub enum Form {
+enum Form {
     Constant,
     Net,
     /// Three parts of a net.
     Parts,
 }
 
-/// Appends to a list.
-pub fn put<T: Drop>(rt: &impl Abort, list: &mut Items<T>, item: T) {
-    list.push(item).expect(rt, "memory");
-}
-
-/// Adds a part of a net.
-pub fn put_part(rt: &impl Abort, sig: &mut Sig, net: u32, at: u32, width: u32) {
-    put(rt, sig, Piece::Part { net, at, width });
+fn put_part(rt: &impl Abort, sig: &mut Sig, net: u32, at: u32, width: u32) {
+    sig.push(Piece::Part { net, at, width })
+        .expect(rt, "memory");
 }
 
 /// A signal that holds a value, which a net has, too.
@@ -45,7 +41,7 @@ fn signal<R: AllocGlobal + Abort>(rt: &R, form: Form, value: &Bits, net: u32) ->
     match form {
         Form::Constant => {
             let copy = value.try_clone(rt.alloc()).expect(rt, "memory");
-            put(rt, &mut sig, Piece::Const(copy));
+            sig.push(Piece::Const(copy)).expect(rt, "memory");
         }
         Form::Net => put_part(rt, &mut sig, net, 0, width),
         Form::Parts => {
@@ -58,37 +54,13 @@ fn signal<R: AllocGlobal + Abort>(rt: &R, form: Form, value: &Bits, net: u32) ->
     sig
 }
 
-/// A circuit without parts but its top.
-pub fn empty<R: AllocGlobal + Abort>(rt: &R) -> Circuit {
-    let alloc = rt.alloc();
-    let mut circuit = Circuit {
-        nets: Items::new(alloc),
-        drives: Items::new(alloc),
-        cells: Items::new(alloc),
-        regs: Items::new(alloc),
-        mems: Items::new(alloc),
-        inputs: Items::new(alloc),
-        items: Items::new(alloc),
-        scopes: Items::new(alloc),
-        diags: Items::new(alloc),
-    };
-    let top = Scope {
-        name: Name::new(Vec::new(alloc)),
-        module: Name::new(Vec::new(alloc)),
-        module_src: None,
-        cell_src: None,
-    };
-    put(rt, &mut circuit.scopes, top);
-    circuit
-}
-
-pub fn put_net<R: AllocGlobal + Abort>(rt: &R, circuit: &mut Circuit, width: u32) {
+fn put_net<R: AllocGlobal + Abort>(rt: &R, circuit: &mut Circuit, width: u32) {
     let path = Name::new(Vec::new(rt.alloc()));
-    put(rt, &mut circuit.nets, Net { path, width });
+    circuit.nets.push(Net { path, width }).expect(rt, "memory");
 }
 
 /// Gives a net a value of its width.
-pub fn set_net(rt: &impl Abort, store: &mut Store, net: u32, value: &Bits)
+fn set_net(rt: &impl Abort, store: &mut Store, net: u32, value: &Bits)
     ensures { (c : Circuit) → IsStoreOf c store.old → IsStoreOf c store.new }
 {
     assert!(rt; (net as usize) < store.nets.len());
@@ -97,7 +69,7 @@ pub fn set_net(rt: &impl Abort, store: &mut Store, net: u32, value: &Bits)
 }
 
 /// Gives the output of a cell a value of its width.
-pub fn set_output(rt: &impl Abort, store: &mut Store, cell: u32, value: &Bits)
+fn set_output(rt: &impl Abort, store: &mut Store, cell: u32, value: &Bits)
     ensures { (c : Circuit) → IsStoreOf c store.old → IsStoreOf c store.new }
 {
     assert!(rt; (cell as usize) < store.cells.len());
@@ -106,7 +78,7 @@ pub fn set_output(rt: &impl Abort, store: &mut Store, cell: u32, value: &Bits)
 }
 
 /// The store of a circuit before the first sample.
-pub fn start<R: AllocGlobal + Abort>(rt: &R, circuit: &Circuit) -> Store
+fn start<R: AllocGlobal + Abort>(rt: &R, circuit: &Circuit) -> Store
     requires { is_valid circuit.now ≡ true }
     ensures { IsStoreOf circuit.now result }
 {
@@ -129,7 +101,7 @@ fn is_word_cell(op: Op) -> bool
 }
 
 /// Evaluates a cell, and tells whether its output changed; none where there is no such cell.
-pub fn evaluate<L: Ledger>(
+fn evaluate<L: Ledger>(
     circuit: &Circuit,
     n: u32,
     store: &mut Store,
@@ -147,121 +119,133 @@ pub fn evaluate<L: Ledger>(
     }
 }
 
-/// The ports A, B and S of a cell, and an output of it.
+/// A type, which of A and B are signed, and the values of A, B, S and Y.
 #[derive(Drop)]
-pub struct Ports {
-    pub a: Bits,
-    pub b: Bits,
-    pub s: Bits,
-    pub y: Bits,
-}
-
-/// The value of this width that these hexadecimal digits stand for.
-fn value<R: AllocGlobal + Abort>(rt: &R, width: u32, digits: &str) -> Bits {
-    let mut value = Bits::zero(rt.alloc(), width).expect(rt, "memory");
-    assert!(rt; value.put_hexadecimal(digits.as_bytes()));
-    value
-}
-
-/// A circuit of three nets and a cell whose ports hold these values in a form.
-fn circuit_of<R: AllocGlobal + Abort>(
-    rt: &R,
-    form: Form,
+struct Row {
     op: Op,
-    signed: (bool, bool),
-    ports: &Ports,
-) -> Circuit {
-    let mut circuit = empty(rt);
-    put_net(rt, &mut circuit, ports.a.width());
-    put_net(rt, &mut circuit, ports.b.width());
-    put_net(rt, &mut circuit, ports.s.width());
-    let cell = Cell {
+    a_signed: bool,
+    b_signed: bool,
+    a: Bits,
+    b: Bits,
+    s: Bits,
+    y: Bits,
+}
+
+/// A row of a text: the name of the type, the letters of the ports that are signed, or `-`, and the values.
+fn row_of(line: &mut Line) -> Option<Row> {
+    let op = op_of(line.word()?)?;
+    let signs = line.word()?;
+    Some(Row {
         op,
-        a: signal(rt, form, &ports.a, 0),
-        b: signal(rt, form, &ports.b, 1),
-        s: signal(rt, form, &ports.s, 2),
-        a_signed: signed.0,
-        b_signed: signed.1,
-        width: ports.y.width(),
+        a_signed: signs.contains('a'),
+        b_signed: signs.contains('b'),
+        a: line.bits()?,
+        b: line.bits()?,
+        s: line.bits()?,
+        y: line.bits()?,
+    })
+}
+
+/// A circuit of three nets and a cell whose ports hold the values of a row in a form.
+fn one_cell<R: AllocGlobal + Abort>(rt: &R, form: Form, row: &Row) -> Circuit {
+    let mut circuit = circuit_of(rt.alloc(), "scope - -").expect(rt, "a circuit");
+    put_net(rt, &mut circuit, row.a.width());
+    put_net(rt, &mut circuit, row.b.width());
+    put_net(rt, &mut circuit, row.s.width());
+    let cell = Cell {
+        op: row.op,
+        a: signal(rt, form, &row.a, 0),
+        b: signal(rt, form, &row.b, 1),
+        s: signal(rt, form, &row.s, 2),
+        a_signed: row.a_signed,
+        b_signed: row.b_signed,
+        width: row.y.width(),
         offset: 3,
     };
-    put(rt, &mut circuit.cells, cell);
+    circuit.cells.push(cell).expect(rt, "memory");
     circuit
 }
-
-/// The store after a cell with these values at its ports was evaluated over its output, and whether that changed.
-pub fn evaluated<L: Ledger, R: AllocGlobal + Abort>(
-    rt: &R,
-    form: Form,
-    op: Op,
-    signed: (bool, bool),
-    ports: &Ports,
-    steps: &mut Steps<L>,
-) -> (Store, bool) {
-    let circuit = circuit_of(rt, form, op, signed, ports);
-    assert!(rt; circuit.validate());
-    let mut store = start(rt, &circuit);
-    set_net(rt, &mut store, 0, &ports.a);
-    set_net(rt, &mut store, 1, &ports.b);
-    set_net(rt, &mut store, 2, &ports.s);
-    set_output(rt, &mut store, 0, &ports.y);
-    let changed = evaluate(&circuit, 0, &mut store, steps);
-    (store, changed == Some(true))
-}
-
-/// A type, whether A and B are signed, the widths of A, B, S and Y, and the numbers of A, B, S and Y in hexadecimal
-/// digits.
-pub type Row = (Op, (bool, bool), [u32; 4], [&'static str; 4]);
 
 /// Whether a cell writes its output over an older one, and says whether that is a change.
 fn writes<L: Ledger, R: AllocGlobal + Abort>(
     rt: &R,
-    row: Row,
+    row: &Row,
     form: Form,
-    old: &str,
+    old: &Bits,
     steps: &mut Steps<L>,
 ) -> bool {
-    let (op, signed, widths, digits) = row;
-    let ports = Ports {
-        a: value(rt, widths[0], digits[0]),
-        b: value(rt, widths[1], digits[1]),
-        s: value(rt, widths[2], digits[2]),
-        y: value(rt, widths[3], old),
-    };
-    let wanted = value(rt, widths[3], digits[3]);
-    let (store, changed) = evaluated(rt, form, op, signed, &ports, steps);
+    let circuit = one_cell(rt, form, row);
+    assert!(rt; circuit.validate());
+    let mut store = start(rt, &circuit);
+    set_net(rt, &mut store, 0, &row.a);
+    set_net(rt, &mut store, 1, &row.b);
+    set_net(rt, &mut store, 2, &row.s);
+    set_output(rt, &mut store, 0, old);
+    let changed = evaluate(&circuit, 0, &mut store, steps);
     assert!(rt; store.cells.len() == 1);
-    let output: BitsView = store.cells.view(0);
-    output.words() == wanted.words() && changed != ports.y.same(&wanted)
+    store.cells.view(0).words() == row.y.words() && changed == Some(!old.same(&row.y))
 }
 
 /// Whether it does so however its ports are written, over 0 and over an output that is right already.
 fn writes_in_each_form<L: Ledger, R: AllocGlobal + Abort>(
     rt: &R,
-    row: Row,
+    row: &Row,
     steps: &mut Steps<L>,
 ) -> bool {
+    let zero = Bits::zero(rt.alloc(), row.y.width()).expect(rt, "memory");
     let mut same = true;
     for form in [Form::Constant, Form::Net, Form::Parts] {
-        same &= writes(rt, row, form, "0", steps);
-        same &= writes(rt, row, form, row.3[3], steps);
+        same &= writes(rt, row, form, &zero, steps);
+        same &= writes(rt, row, form, &row.y, steps);
     }
     same
 }
 
-fn check_under<L: Ledger, R: AllocGlobal + Abort>(rt: &R, rows: &[Row], blank: Blank)
+/// Checks that each row of a text is what a cell writes.
+pub fn check_rows<L: Ledger, R: AllocGlobal + Abort>(rt: &R, rows: &[&str], blank: Blank)
     requires name { blank.name ≡ L.name }
     requires parts { blank.parts ≡ L.parts }
     requires some { 0 < blank.parts }
 {
     let mut steps = Steps::<L>::new(blank);
-    for n in 0..rows.len() {
-        let same = writes_in_each_form(rt, rows[n], &mut steps);
-        assert!(rt; same, "row {n}");
+    for rows in rows {
+        for text in rows.lines() {
+            let row = row_of(&mut Line::new(rt.alloc(), text)).expect(rt, "a row");
+            let same = writes_in_each_form(rt, &row, &mut steps);
+            assert!(rt; same, "{text}");
+        }
     }
 }
 
-/// Checks that each row is what a cell writes.
-pub fn check_rows<R: AllocGlobal + Abort>(rt: &R, rows: &[Row]) {
-    check_under::<Brand, R>(rt, rows, Blank::new(1));
+/// Two nets and two cells, of which the second is a `$sub` of parts of the nets.
+const TWO_CELLS: &str = "scope - -
+net - 16
+net - 8
+cell add - 3 0
+cell sub - 12 0 0[4+:8],0[0+:4] 1[0+:8]";
+
+fn check_second<L: Ledger, R: AllocGlobal + Abort>(rt: &R, values: &mut Line, blank: Blank)
+    requires name { blank.name ≡ L.name }
+    requires parts { blank.parts ≡ L.parts }
+    requires some { 0 < blank.parts }
+{
+    let mut steps = Steps::<L>::new(blank);
+    let circuit = circuit_of(rt.alloc(), TWO_CELLS).expect(rt, "a circuit");
+    assert!(rt; circuit.validate());
+    let mut store = start(rt, &circuit);
+    set_net(rt, &mut store, 0, &values.bits().expect(rt, "a value"));
+    set_net(rt, &mut store, 1, &values.bits().expect(rt, "a value"));
+    set_output(rt, &mut store, 0, &values.bits().expect(rt, "a value"));
+    set_output(rt, &mut store, 1, &values.bits().expect(rt, "a value"));
+    let changed = evaluate(&circuit, 1, &mut store, &mut steps);
+    assert!(rt; changed == Some(true));
+    assert!(rt; store.cells.len() == 2);
+    assert!(rt; store.cells.view(0).words() == [5].as_slice());
+    assert!(rt; store.cells.view(1).words() == [0x355].as_slice());
+}
+
+#[test]
+fn a_cell_reads_parts_of_nets(rt: HostRuntime) {
+    let mut values = Line::new(rt.alloc(), "16'a5c3 8'7 3'5 12'35c");
+    check_second::<Brand, _>(&rt, &mut values, Blank::new(1));
 }

@@ -6,8 +6,6 @@ mod arithmetic;
 #[cfg(test)]
 mod cells;
 #[cfg(test)]
-mod nets;
-#[cfg(test)]
 mod selections;
 #[cfg(test)]
 mod shifts;
