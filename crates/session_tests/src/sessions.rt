@@ -18,42 +18,7 @@ use solo_session::{Session, law_of_pace};
 use std::alloc::Global;
 use std::process::Abort;
 use std::test::Fail;
-use test_designs::designs::{COUNTER, RING};
-use test_designs::packets::{GREETING, RUN, RUN_UNTIL_15, SCOPES, STATUS, VERSION_1};
-use test_designs::replies::{
-    FINISHED, FINISHED_AT_0, GREETED, GREETED_AGAIN, NO_JSON, NOT_GREETED, PAUSED_AT_15, RUNNING,
-    RUNS, STANDS_AT_0, STANDS_AT_15, TOO_LONG, UNKNOWN, WRONG_VERSION,
-};
-use test_designs::stimuli::{HIGH_FIRST, MANY, SIX};
-
-const NO_PACKET: [&str; 4] = ["record 1", "open 0", "close 0 ended", "end"];
-
-const ONE_PACKET: [&str; 5] = ["record 1", "open 0", "packet 0", "close 0 ended", "end"];
-
-const TWO_PACKETS: [&str; 6] = [
-    "record 1",
-    "open 0",
-    "packet 0",
-    "packet 0",
-    "close 0 ended",
-    "end",
-];
-
-/// The packets that are sent and the bytes behind them, and the packets and the lines that come of them.
-#[derive(Clone, Copy)]
-struct Row<'a> {
-    sent: &'a [&'a str],
-    rest: &'a str,
-    said: &'a [&'a str],
-    log: &'a [&'a str],
-}
-
-/// A circuit and its samples.
-#[derive(Clone, Copy)]
-struct Case<'a> {
-    design: &'a str,
-    stimulus: &'a str,
-}
+use test_designs::plays::{Play, SHORT, TO_THE_END, UNTIL_15};
 
 #[derive(Drop)]
 struct Outcome {
@@ -61,20 +26,10 @@ struct Outcome {
     log: Vec<u8>,
 }
 
-/// These texts, each with such a byte behind it.
-fn joined(alloc: Global, texts: &[&str], end: u8) -> Result<Vec<u8>, NoMemory> {
-    let mut bytes = Vec::new(alloc);
-    for text in texts {
-        bytes.extend_from_slice(text.as_bytes())?;
-        bytes.push(end)?;
-    }
-    Ok(bytes)
-}
-
-fn run(alloc: Global, case: &Case) -> Result<FlatRun, FlatFault> {
-    let module = read_module(alloc, case.design.as_bytes())?;
+fn run(alloc: Global, play: &Play) -> Result<FlatRun, FlatFault> {
+    let module = read_module(alloc, play.design.as_bytes())?;
     let circuit = elaborate(alloc, &module)?;
-    let stimulus = read_stimulus(alloc, case.stimulus.as_bytes(), &circuit)?;
+    let stimulus = read_stimulus(alloc, play.stimulus.as_bytes(), &circuit)?;
     Ok(FlatRun::new(alloc, circuit, stimulus)?)
 }
 
@@ -140,9 +95,9 @@ fn close(
     session.close(alloc, Why::Ended, text)
 }
 
-/// What is said to a client whose bytes come in two pieces, and the log.
-fn played(alloc: Global, case: &Case, first: &[u8], second: &[u8]) -> Result<Outcome, FlatFault> {
-    let mut session = started(alloc, run(alloc, case)?)?;
+/// What is said to a client of a play whose bytes come in these two pieces, and the log.
+fn played(alloc: Global, play: &Play, first: &[u8], second: &[u8]) -> Result<Outcome, FlatFault> {
+    let mut session = started(alloc, run(alloc, play)?)?;
     let mut text = Vec::new(alloc);
     if open(&mut session)? {
         let too_long = serve(alloc, &mut session, first, second, &mut text)?;
@@ -152,258 +107,58 @@ fn played(alloc: Global, case: &Case, first: &[u8], second: &[u8]) -> Result<Out
     Ok(Outcome { text, log })
 }
 
-/// Sends the bytes in two pieces, cut at each place.
-fn cut_everywhere(
-    rt: &impl Abort,
-    alloc: Global,
-    case: &Case,
-    sent: &[u8],
-    want: &Outcome,
-) -> Result<(), Fail> {
-    for cut in 0..=sent.len() {
-        let (first, second) = sent.split_at(cut);
-        let got = played(alloc, case, first, second)?;
-        assert!(rt; got.text == want.text, "said, cut at {cut}");
-        assert!(rt; got.log == want.log, "log, cut at {cut}");
-    }
-    Ok(())
-}
-
-fn goes(rt: &impl Abort, alloc: Global, case: &Case, rows: &[Row]) -> Result<(), Fail> {
-    for row in rows {
-        let mut sent = joined(alloc, row.sent, 0)?;
-        sent.extend_from_slice(row.rest.as_bytes())?;
-        let want = Outcome {
-            text: joined(alloc, row.said, 0)?,
-            log: joined(alloc, row.log, b'\n')?,
-        };
-        cut_everywhere(rt, alloc, case, &sent, &want)?;
+/// Sends the bytes of a play in two pieces, cut at each place.
+fn cut_everywhere(rt: &impl Abort, alloc: Global, text: &str) -> Result<(), Fail> {
+    let play = Play::read(alloc, text)?;
+    for cut in 0..=play.sent.len() {
+        let (first, second) = play.sent.split_at(cut);
+        let got = played(alloc, &play, first, second)?;
+        assert!(rt; got.text == play.said, "said, cut at {cut}: {text}");
+        assert!(rt; got.log == play.log, "log, cut at {cut}: {text}");
     }
     Ok(())
 }
 
 #[test]
 fn a_client_is_answered_wherever_its_bytes_are_cut(rt: HostRuntime) -> Result<(), Fail> {
-    let case = Case {
-        design: COUNTER,
-        stimulus: SIX,
-    };
-    goes(
-        &rt,
-        rt.alloc(),
-        &case,
-        &[
-            Row {
-                sent: &[],
-                rest: "",
-                said: &[],
-                log: &NO_PACKET,
-            },
-            Row {
-                sent: &[],
-                rest: GREETING,
-                said: &[],
-                log: &NO_PACKET,
-            },
-            Row {
-                sent: &[""],
-                rest: "",
-                said: &[NO_JSON],
-                log: &ONE_PACKET,
-            },
-            Row {
-                sent: &[GREETING],
-                rest: "",
-                said: &[GREETED],
-                log: &ONE_PACKET,
-            },
-            Row {
-                sent: &[VERSION_1],
-                rest: "",
-                said: &[WRONG_VERSION],
-                log: &ONE_PACKET,
-            },
-            Row {
-                sent: &[GREETING, GREETING],
-                rest: "",
-                said: &[GREETED, GREETED_AGAIN],
-                log: &TWO_PACKETS,
-            },
-            Row {
-                sent: &[GREETING, SCOPES],
-                rest: "",
-                said: &[GREETED, UNKNOWN],
-                log: &TWO_PACKETS,
-            },
-        ],
-    )
+    for text in SHORT.split("\n\n") {
+        cut_everywhere(&rt, rt.alloc(), text)?;
+    }
+    cut_everywhere(&rt, rt.alloc(), UNTIL_15)?;
+    cut_everywhere(&rt, rt.alloc(), TO_THE_END)
 }
 
-#[test]
-fn a_status_is_told_behind_the_greeting(rt: HostRuntime) -> Result<(), Fail> {
-    let case = Case {
-        design: COUNTER,
-        stimulus: SIX,
-    };
-    goes(
-        &rt,
-        rt.alloc(),
-        &case,
-        &[Row {
-            sent: &[STATUS, GREETING, STATUS],
-            rest: "",
-            said: &[NOT_GREETED, GREETED, STANDS_AT_0],
-            log: &[
-                "record 1",
-                "open 0",
-                "packet 0",
-                "packet 0",
-                "packet 0",
-                "close 0 ended",
-                "end",
-            ],
-        }],
-    )
-}
+const LONGEST: &str = "counter six 0
+< no_json
+record 1
+open 0
+packet 0
+close 0 ended
+end";
 
-#[test]
-fn a_run_goes_up_to_a_time(rt: HostRuntime) -> Result<(), Fail> {
-    let case = Case {
-        design: COUNTER,
-        stimulus: SIX,
-    };
-    goes(
-        &rt,
-        rt.alloc(),
-        &case,
-        &[Row {
-            sent: &[GREETING, RUN_UNTIL_15, STATUS, RUN_UNTIL_15],
-            rest: "",
-            said: &[
-                GREETED,
-                RUNS,
-                PAUSED_AT_15,
-                STANDS_AT_15,
-                RUNS,
-                PAUSED_AT_15,
-            ],
-            log: &[
-                "record 1",
-                "open 0",
-                "packet 0",
-                "packet 0 run 4",
-                "record 3",
-                "packet 0",
-                "packet 0 run 4",
-                "close 0 ended",
-                "end",
-            ],
-        }],
-    )
-}
-
-#[test]
-fn a_batch_of_256_stands_behind_each_packet(rt: HostRuntime) -> Result<(), Fail> {
-    let case = Case {
-        design: COUNTER,
-        stimulus: MANY,
-    };
-    goes(
-        &rt,
-        rt.alloc(),
-        &case,
-        &[Row {
-            sent: &[GREETING, RUN, STATUS],
-            rest: "",
-            said: &[GREETED, RUNS, RUNNING, FINISHED],
-            log: &[
-                "record 1",
-                "open 0",
-                "packet 0",
-                "packet 0 run 512",
-                "record 256",
-                "packet 0",
-                "record 255",
-                "close 0 ended",
-                "end",
-            ],
-        }],
-    )
-}
-
-#[test]
-fn a_run_ends_at_a_sample_that_does_not_settle(rt: HostRuntime) -> Result<(), Fail> {
-    let alloc = rt.alloc();
-    let ring = Case {
-        design: RING,
-        stimulus: SIX,
-    };
-    let at_once = Case {
-        design: RING,
-        stimulus: HIGH_FIRST,
-    };
-    goes(
-        &rt,
-        alloc,
-        &ring,
-        &[Row {
-            sent: &[GREETING, RUN, RUN],
-            rest: "",
-            said: &[GREETED, RUNS, FINISHED_AT_0, RUNS, FINISHED_AT_0],
-            log: &[
-                "record 1",
-                "open 0",
-                "packet 0",
-                "packet 0 run 6",
-                "unsettled",
-                "packet 0 run 6",
-                "close 0 ended",
-                "end",
-            ],
-        }],
-    )?;
-    goes(
-        &rt,
-        alloc,
-        &at_once,
-        &[Row {
-            sent: &[GREETING],
-            rest: "",
-            said: &[],
-            log: &["unsettled", "end"],
-        }],
-    )
-}
+const TOO_LONG: &str = "counter six 0
+> greeting
+< greeted
+< too_long
+record 1
+open 0
+packet 0
+close 0 too_long
+end";
 
 #[test]
 fn a_packet_has_at_most_1048576_bytes(rt: HostRuntime) -> Result<(), Fail> {
     let alloc = rt.alloc();
-    let case = Case {
-        design: COUNTER,
-        stimulus: SIX,
-    };
     let spaces = vec![in alloc; b' '; MAX_PACKET]?;
-    let whole = played(alloc, &case, &spaces, b"\0")?;
-    let no_json = joined(alloc, &[NO_JSON], 0)?;
-    assert!(rt; whole.text == no_json);
-    let one = joined(
-        alloc,
-        &["record 1", "open 0", "packet 0", "close 0 ended", "end"],
-        b'\n',
-    )?;
-    assert!(rt; whole.log == one);
-
-    let mut sent = joined(alloc, &[GREETING], 0)?;
-    sent.extend_from_slice(&spaces)?;
-    let long = played(alloc, &case, &sent, b" ")?;
-    let said = joined(alloc, &[GREETED, TOO_LONG], 0)?;
-    assert!(rt; long.text == said);
-    let log = joined(
-        alloc,
-        &["record 1", "open 0", "packet 0", "close 0 too_long", "end"],
-        b'\n',
-    )?;
-    assert!(rt; long.log == log);
+    let longest = Play::read(alloc, LONGEST)?;
+    let whole = played(alloc, &longest, &spaces, b"\0")?;
+    assert!(rt; whole.text == longest.said);
+    assert!(rt; whole.log == longest.log);
+    let mut play = Play::read(alloc, TOO_LONG)?;
+    play.sent.extend_from_slice(&spaces)?;
+    let long = played(alloc, &play, &play.sent, b" ")?;
+    assert!(rt; long.text == play.said);
+    assert!(rt; long.log == play.log);
     law_of_entries();
     law_of_isolation();
     law_of_more_packets();

@@ -110,3 +110,12 @@ connect \Q \b
 end
 end
 ";
+
+/// The design of this name.
+pub fn design(name: &str) -> &'static str {
+    match name {
+        "counter" => COUNTER,
+        "ring" => RING,
+        _ => "none of these",
+    }
+}

@@ -1,7 +1,9 @@
-//! Designs, stimuli and packets that the tests of several crates share.
+//! Designs, stimuli, packets and replies that the tests of several crates share, and plays of a client that are read from
+//! texts.
 #![tactic(auto)]
 
 pub mod designs;
 pub mod packets;
+pub mod plays;
 pub mod replies;
 pub mod stimuli;

@@ -18,3 +18,17 @@ pub const RUN_UNTIL_15: &str =
 
 /// Asks for the scopes.
 pub const SCOPES: &str = r#"{"type":"command","command":"list_scopes"}"#;
+
+/// The packet of this name.
+pub fn packet(name: &str) -> &'static str {
+    match name {
+        "nothing" => "",
+        "greeting" => GREETING,
+        "version_1" => VERSION_1,
+        "status" => STATUS,
+        "run" => RUN,
+        "run_until_15" => RUN_UNTIL_15,
+        "scopes" => SCOPES,
+        _ => "none of these",
+    }
+}

@@ -54,3 +54,24 @@ pub const NOT_GREETED: &str =
 /// Refuses a packet that is too long.
 pub const TOO_LONG: &str =
     r#"{"error":"packet_too_long","message":"the packet is too long","type":"error"}"#;
+
+/// The reply of this name.
+pub fn reply(name: &str) -> &'static str {
+    match name {
+        "greeted" => GREETED,
+        "runs" => RUNS,
+        "paused_at_15" => PAUSED_AT_15,
+        "finished" => FINISHED,
+        "finished_at_0" => FINISHED_AT_0,
+        "stands_at_0" => STANDS_AT_0,
+        "stands_at_15" => STANDS_AT_15,
+        "running" => RUNNING,
+        "no_json" => NO_JSON,
+        "wrong_version" => WRONG_VERSION,
+        "greeted_again" => GREETED_AGAIN,
+        "unknown" => UNKNOWN,
+        "not_greeted" => NOT_GREETED,
+        "too_long" => TOO_LONG,
+        _ => "none of these",
+    }
+}

@@ -26,3 +26,13 @@ block 1 1.0
 0.5 0
 end
 ";
+
+/// The stimulus of this name.
+pub fn stimulus(name: &str) -> &'static str {
+    match name {
+        "six" => SIX,
+        "many" => MANY,
+        "high_first" => HIGH_FIRST,
+        _ => "none of these",
+    }
+}
