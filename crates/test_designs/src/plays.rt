@@ -56,7 +56,7 @@ fn push(bytes: &mut Vec<u8>, text: &str, end: u8) -> Result<(), AllocError> {
     Ok(())
 }
 
-/// Plays of at most two packets, with an empty line between two.
+/// Plays of at most three packets, with an empty line between two.
 pub const SHORT: &str = "counter six 0
 record 1
 open 0
