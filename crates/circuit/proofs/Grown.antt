@@ -6,7 +6,7 @@ use Rattle.std.specs.Str.{is_utf8}
 use Rattle.std.proofs.lemmas.Bool.{and_from, and_parts, lt-ltb, ltb-true}
 use Rattle.circuit.specs.Signal.{sig_width}
 use Rattle.circuit.specs.Valuation.{bits_of}
-use Rattle.circuit.specs.Valid.{Drivers, drivers_of, Ports, address_width, cell_fits, cell_holds, counts_fit, diag_fits, drive_fits, driver_fits, input_holds, inputs_fit, is_countable, is_valid, item_fits, kind_fits, mem_fits, is_shown_once, names_differ, names_rise, net_holds, node_count, numbers_differ, piece_fits, port_holds, ports_of_kind, reaches, read_fits, register_fits, register_has, register_holds, scope_fits, sig_fits, sig_of, slot_count, slots_run, text_fits, trigger_fits, widest, width_where, widths_fit, widths_of, write_fits}
+use Rattle.circuit.specs.Valid.{Drivers, drivers_of, Ports, address_width, cell_fits, cell_holds, counts_fit, diag_fits, drive_fits, driver_fits, input_holds, inputs_fit, is_countable, is_valid, item_fits, kind_fits, mem_fits, is_shown_once, names_differ, names_rise, net_holds, net_words, node_count, numbers_differ, output_words, piece_fits, port_holds, ports_of_kind, reaches, read_fits, register_fits, register_has, register_holds, register_words, scope_fits, sig_fits, sig_of, slot_count, slots_run, text_fits, trigger_fits, widest, width_where, widths_fit, widths_of, write_fits}
 use Rattle.circuit.specs.Built.{AreCountable, AreFitting, DriversStandIn, ShowsWhatIsThere, StandsIn}
 use Rattle.circuit.specs.declared.netlist.Circuit.{Circuit}
 use Rattle.circuit.specs.declared.netlist.Net.{Net}
@@ -53,7 +53,10 @@ counts_of c h =
     let f = and_parts (is_countable (length c.inputs)) _ e.1 in
     let g = and_parts (is_countable (length c.scopes)) _ f.1 in
     let i = and_parts (is_countable (slot_count c)) _ g.1 in
-    let j = and_parts (is_countable (node_count c)) (is_countable (bits_of c)) i.1 in
+    let j = and_parts (is_countable (node_count c)) _ i.1 in
+    let k = and_parts (is_countable (bits_of c)) _ j.1 in
+    let l = and_parts (is_countable (net_words c.nets)) _ k.1 in
+    let m = and_parts (is_countable (output_words c.cells)) (is_countable (register_words c.regs)) l.1 in
     record {
       nets = ltb-true (length c.nets) (2 ^ 32) a.0;
       cells = ltb-true (length c.cells) (2 ^ 32) b.0;
@@ -63,12 +66,18 @@ counts_of c h =
       scopes = ltb-true (length c.scopes) (2 ^ 32) g.0;
       slots = ltb-true (slot_count c) (2 ^ 32) i.0;
       nodes = ltb-true (node_count c) (2 ^ 32) j.0;
-      bits = ltb-true (bits_of c) (2 ^ 32) j.1;
+      bits = ltb-true (bits_of c) (2 ^ 32) k.0;
+      net_words = ltb-true (net_words c.nets) (2 ^ 32) l.0;
+      output_words = ltb-true (output_words c.cells) (2 ^ 32) m.0;
+      register_words = ltb-true (register_words c.regs) (2 ^ 32) m.1;
     }
 
 counts_from : (c : Circuit) → AreCountable c → counts_fit c ≡ true
 counts_from c a =
-    let i = and_from (is_countable (node_count c)) (is_countable (bits_of c)) (lt-ltb (node_count c) (2 ^ 32) a.nodes) (lt-ltb (bits_of c) (2 ^ 32) a.bits) in
+    let m = and_from (is_countable (output_words c.cells)) (is_countable (register_words c.regs)) (lt-ltb (output_words c.cells) (2 ^ 32) a.output_words) (lt-ltb (register_words c.regs) (2 ^ 32) a.register_words) in
+    let l = and_from (is_countable (net_words c.nets)) _ (lt-ltb (net_words c.nets) (2 ^ 32) a.net_words) m in
+    let k = and_from (is_countable (bits_of c)) _ (lt-ltb (bits_of c) (2 ^ 32) a.bits) l in
+    let i = and_from (is_countable (node_count c)) _ (lt-ltb (node_count c) (2 ^ 32) a.nodes) k in
     let h = and_from (is_countable (slot_count c)) _ (lt-ltb (slot_count c) (2 ^ 32) a.slots) i in
     let g = and_from (is_countable (length c.scopes)) _ (lt-ltb (length c.scopes) (2 ^ 32) a.scopes) h in
     let f = and_from (is_countable (length c.inputs)) _ (lt-ltb (length c.inputs) (2 ^ 32) a.inputs) g in

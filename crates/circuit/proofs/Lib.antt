@@ -14,9 +14,10 @@ mod Widths
 mod Below
 mod StateOf
 mod Shown
-mod Grown
+pub mod Grown
 mod Apart
 mod FirstSlots
 mod Choices
 pub mod Signals
 mod SigParts
+mod Worded

@@ -3,7 +3,7 @@ use Rattle.std.specs.Prelude.{◌≡◌, ℕ, ◌^◌, ◌<◌, List, ◌++◌, 
 use Rattle.std.specs.List.{list_all, list_any}
 use Rattle.circuit.specs.Shown.{slots_of}
 use Rattle.circuit.specs.Valuation.{bits_of}
-use Rattle.circuit.specs.Valid.{Drivers, drivers_of, widest, slot_count, node_count, drive_fits, cell_fits, register_fits, mem_fits, inputs_fit, item_fits, slots_run, names_rise, scope_fits, names_differ, diag_fits}
+use Rattle.circuit.specs.Valid.{Drivers, drivers_of, widest, slot_count, net_words, node_count, output_words, register_words, drive_fits, cell_fits, register_fits, mem_fits, inputs_fit, item_fits, slots_run, names_rise, scope_fits, names_differ, diag_fits}
 use Rattle.circuit.specs.declared.netlist.Circuit.{Circuit}
 use Rattle.circuit.specs.declared.netlist.Net.{Net}
 use Rattle.circuit.specs.declared.cell.Cell.{Cell}
@@ -27,6 +27,9 @@ pub record AreCountable (c : Circuit) : Type 0 where
   pub slots : slot_count c < 2 ^ 32
   pub nodes : node_count c < 2 ^ 32
   pub bits : bits_of c < 2 ^ 32
+  pub net_words : net_words c.nets < 2 ^ 32
+  pub output_words : output_words c.cells < 2 ^ 32
+  pub register_words : register_words c.regs < 2 ^ 32
 
 -- each list of a circuit passes its tests
 pub record AreFitting (c : Circuit) : Type 0 where

@@ -4,6 +4,7 @@ use Rattle.std.specs.List.{list_all, list_any, count_by}
 use Rattle.std.specs.Cmp.Lexicographic.{slice_cmp}
 use Rattle.std.specs.Ordering.{nat_cmp, is_lt}
 use Rattle.std.specs.Str.{is_utf8}
+use Rattle.sim_base.specs.Values.{words_of}
 use Rattle.circuit.specs.Signal.{sig_width}
 use Rattle.circuit.specs.Shown.{slots_of}
 use Rattle.circuit.specs.Valuation.{bits_of}
@@ -329,12 +330,23 @@ slot_count c = sum_by (λ i. slots_of c.mems i.kind) c.items + length c.diags
 abbrev pub node_count : Circuit → ℕ
 node_count c = length c.cells + sum_by (λ m. length m.reads) c.mems
 
--- slots, nodes and the bits of all nets can be numbered too
+-- how many words of 64 bits the values of all nets take, of all outputs of cells, and of all registers
+abbrev pub net_words : List Net → ℕ
+net_words nets = sum_by (λ n. words_of n.width) nets
+
+abbrev pub output_words : List Cell → ℕ
+output_words cells = sum_by (λ x. words_of x.width) cells
+
+abbrev pub register_words : List Reg → ℕ
+register_words regs = sum_by (λ r. words_of r.init.width) regs
+
+-- slots, nodes, the bits of all nets and the words of all values can be numbered too
 abbrev pub counts_fit : Circuit → Bool
 counts_fit c =
     is_countable (length c.nets) && (is_countable (length c.cells) && (is_countable (length c.regs) && (is_countable (length c.mems)
     && (is_countable (length c.inputs) && (is_countable (length c.scopes)
-    && (is_countable (slot_count c) && (is_countable (node_count c) && is_countable (bits_of c))))))))
+    && (is_countable (slot_count c) && (is_countable (node_count c) && (is_countable (bits_of c)
+    && (is_countable (net_words c.nets) && (is_countable (output_words c.cells) && is_countable (register_words c.regs)))))))))))
 
 -- a circuit that the other crates take
 abbrev pub is_valid : Circuit → Bool

@@ -1,7 +1,8 @@
 //! The numbers of a circuit's parts in a round.
-ghost use Rattle.std.specs.Prelude.{◌≡◌, IfOk, map};
+ghost use Rattle.std.specs.Prelude.{◌≡◌, ◌<◌, ◌^◌, IfOk, map, true};
 ghost use Rattle.sim_base.specs.BitValue.{zeros};
 ghost use Rattle.circuit.specs.Store.{start_read, start_store};
+ghost use Rattle.circuit.specs.Valid.{is_valid, net_words, output_words, register_words};
 
 use crate::cell::Cell;
 use crate::listing::Listing;
@@ -25,6 +26,7 @@ pub struct Store {
 impl Store {
     /// The start values of registers and of read ports with a clock, and 0 for all else.
     pub fn new(alloc: Global, circuit: &Circuit) -> Result<Store, NoMemory>
+        requires { is_valid circuit.now ≡ true }
         ensures { IfOk result (λ store. store ≡ start_store circuit.now) }
     {
         Ok(Store {
@@ -37,6 +39,7 @@ impl Store {
 }
 
 fn start_nets(alloc: Global, nets: &[Net]) -> Result<Values, NoMemory>
+    requires { net_words nets.now < 2 ^ 32 }
     ensures { IfOk result (λ values. values ≡ map (λ n. zeros n.width) nets.now) }
 {
     let mut widths = Vec::new(alloc);
@@ -47,6 +50,7 @@ fn start_nets(alloc: Global, nets: &[Net]) -> Result<Values, NoMemory>
 }
 
 fn start_cells(alloc: Global, cells: &[Cell]) -> Result<Values, NoMemory>
+    requires { output_words cells.now < 2 ^ 32 }
     ensures { IfOk result (λ values. values ≡ map (λ x. zeros x.width) cells.now) }
 {
     let mut widths = Vec::new(alloc);
@@ -58,6 +62,7 @@ fn start_cells(alloc: Global, cells: &[Cell]) -> Result<Values, NoMemory>
 
 /// Zeros of the widths of the registers' start values.
 fn reg_zeros(alloc: Global, regs: &[Reg]) -> Result<Values, NoMemory>
+    requires { register_words regs.now < 2 ^ 32 }
     ensures { IfOk result (λ values. values ≡ map zeros (map (λ v. v.width) (map (λ r. r.init) regs.now))) }
 {
     let mut widths = Vec::new(alloc);
@@ -69,6 +74,7 @@ fn reg_zeros(alloc: Global, regs: &[Reg]) -> Result<Values, NoMemory>
 
 /// The values of registers before the first sample.
 pub fn start_regs(alloc: Global, regs: &[Reg]) -> Result<Values, NoMemory>
+    requires { register_words regs.now < 2 ^ 32 }
     ensures { IfOk result (λ values. values ≡ map (λ r. r.init) regs.now) }
 {
     let mut values = reg_zeros(alloc, regs)?;

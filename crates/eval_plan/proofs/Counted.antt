@@ -3,7 +3,8 @@ use Rattle.std.proofs.Common.{◌≡◌, ℕ, ◌+◌, ◌<◌, ◌≤◌, ◌^�
 use Rattle.std.specs.Prelude.{slice_get, sum_by}
 use Rattle.std.proofs.lemmas.Bool.{and_parts, ltb-true}
 use Rattle.std.proofs.lemmas.List.Recursion.{is_sum_by}
-use Rattle.circuit.specs.Valid.{is_countable, is_valid, node_count, slot_count}
+use Rattle.circuit.specs.Valid.{is_valid, node_count}
+use Rattle.circuit.proofs.Grown.{fitting_of}
 use Rattle.circuit.specs.Valuation.{bits_of, covers}
 use Rattle.circuit.specs.declared.netlist.Circuit.{Circuit}
 use Rattle.circuit.specs.declared.netlist.Drive.{Drive}
@@ -49,16 +50,7 @@ all_before size xs = is_sum_by (λ ys. before size ys (length ys)) size refl (λ
 
 -- 32 bits number them
 counted : (c : Circuit) → is_valid c ≡ true → (node_count c < 2 ^ 32) × (bits_of c < 2 ^ 32)
-counted c valid =
-    let nets = and_parts (is_countable (length c.nets)) _ (counts c valid) in
-    let cells = and_parts (is_countable (length c.cells)) _ nets.1 in
-    let regs = and_parts (is_countable (length c.regs)) _ cells.1 in
-    let mems = and_parts (is_countable (length c.mems)) _ regs.1 in
-    let inputs = and_parts (is_countable (length c.inputs)) _ mems.1 in
-    let scopes = and_parts (is_countable (length c.scopes)) _ inputs.1 in
-    let slots = and_parts (is_countable (slot_count c)) _ scopes.1 in
-    let both = and_parts (is_countable (node_count c)) (is_countable (bits_of c)) slots.1 in
-    (ltb-true (node_count c) (2 ^ 32) both.0, ltb-true (bits_of c) (2 ^ 32) both.1)
+counted c valid = let fits = fitting_of c valid in (fits.counts.nodes, fits.counts.bits)
 
 pub nodes_countable : (c : Circuit) (nodes : List Node) → is_valid c ≡ true → IsOrdered c nodes → length nodes < 2 ^ 32
 nodes_countable c nodes valid order =

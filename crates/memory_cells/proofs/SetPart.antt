@@ -10,7 +10,7 @@ use Rattle.sim_base.specs.BitValue.{digit_after_copy}
 use Rattle.sim_base.proofs.Words.{copied_in, copied_below, copied_above}
 use Rattle.sim_base.specs.Parts.{parts}
 use Rattle.memory_cells.proofs.Placed.{field_digit}
-use Rattle.sim_base.proofs.Parts.{field_of_field, length-parts, part_at}
+use Rattle.sim_base.proofs.Parts.{length-parts, part_at}
 
 -- a digit of another row stays
 other_digit : (old new place w row i j : ℕ) → ((k : ℕ) → bit_at new k ≡ digit_after_copy (place * w) row 0 w old k) → i ≢ place → j < w → bit_at new (i * w + j) ≡ bit_at old (i * w + j)
@@ -49,31 +49,3 @@ parts_set size w old new place row there below bits =
           (same_part old new (i * w) w (λ j in-row. other_digit old new place w row i j bits ne in-row)
           ∙ sym (part_at w size old i lt) ∙ sym (get_or-set_other (parts w size old) place i row 0 ne))
     ])
-
--- ---- whether the part is the same
-
-pub record SameUpTo (rows at row done : ℕ) : Type 0 where
-  pub same : (j : ℕ) → j < done → bit_at rows (at + j) ≡ bit_at row j
-
-pub same_none : (rows at row : ℕ) → SameUpTo rows at row 0
-same_none rows at row = record { same = λ j lt. absurd (omega arith) }
-
-pub same_more : (rows at row done n : ℕ) → SameUpTo rows at row done → rows / 2 ^ (at + done) % 2 ^ n ≡ row / 2 ^ done % 2 ^ n → SameUpTo rows at row (done + n)
-same_more rows at row done n s e = record {
-  same = λ j lt. elim (cases_lt j done) [
-    | inl a ↦ s.same j a
-    | inr b ↦
-        (let k : j - done < n = omega arith in
-        let p : at + done + (j - done) ≡ at + j = omega arith in
-        let q : done + (j - done) ≡ j = omega arith in
-        ap (bit_at rows) (sym p) ∙ sym (field_digit rows (at + done) n (j - done) k) ∙ ap (λ m. bit_at m (j - done)) e ∙ field_digit row done n (j - done) k ∙ ap (bit_at row) q)
-  ];
-}
-
-pub same_whole : (rows at row w done : ℕ) → row < 2 ^ w → w ≤ done → SameUpTo rows at row done → rows / 2 ^ at % 2 ^ w ≡ row
-same_whole rows at row w done below le s =
-    same_from_bits_below w (rows / 2 ^ at % 2 ^ w) row (mod_below (rows / 2 ^ at) (2 ^ w) (pow_pos w)) below
-    (λ j lt. field_digit rows at w j lt ∙ s.same j (omega arith))
-
-pub part_differs : (rows at row w done n : ℕ) → done + n ≤ w → rows / 2 ^ (at + done) % 2 ^ n ≢ row / 2 ^ done % 2 ^ n → rows / 2 ^ at % 2 ^ w ≢ row
-part_differs rows at row w done n le ne = λ e. ne (sym (field_of_field rows at w done n le) ∙ ap (λ m. m / 2 ^ done % 2 ^ n) e)

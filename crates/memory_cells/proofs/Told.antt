@@ -1,9 +1,12 @@
 -- Whether a list of numbers changed, told element by element.
-use Rattle.std.proofs.Common.{◌≡◌, ◌≢◌, ℕ, ◌<◌, List, length, get_or, set, eqb, refl, sym, ◌∙◌, ap, inl, inr, Bool, true, false, not, ◌||◌, nat_eq}
+use Rattle.std.proofs.Common.{◌≡◌, ◌≢◌, ℕ, ◌*◌, ◌^◌, ◌<◌, ◌==◌, List, length, get_or, set, eqb, refl, sym, ◌∙◌, ap, inl, inr, Bool, true, false, not, ◌||◌, nat_eq}
 use Rattle.std.specs.Cmp.Lexicographic.{pointwise}
 use Rattle.std.proofs.lemmas.Bool.{cases_eq, eq-eqb, ne_eqb}
 use Rattle.std.proofs.lemmas.List.{set-get_or, get_or-set_same}
 use Rattle.std.proofs.lemmas.Slice.Eq.{bytes_eq-Decides}
+use Rattle.std.proofs.Math.Nat.{mod-eq_of_lt}
+use Rattle.sim_base.specs.Parts.{number_of_parts, parts}
+use Rattle.sim_base.proofs.Parts.{parts_make}
 
 -- the lists are equal, or not
 abbrev pub same_lists : List ℕ → List ℕ → Bool
@@ -53,8 +56,12 @@ told_one xs i v lt = elim (cases_eq v (get_or xs i 0)) [
   | inr ne ↦ same_false (set xs i v) xs (λ e. ne (sym (get_or-set_same xs i v 0 lt) ∙ ap (λ (ys : List ℕ). get_or ys i 0) e)) ∙ sym (ne_eqb v (get_or xs i 0) ne)
 ]
 
-pub eqb_other_way : (x y : ℕ) → eqb x y ≡ eqb y x
-eqb_other_way x y = elim (cases_eq x y) [
-  | inl e ↦ eq-eqb x y e ∙ sym (eq-eqb y x (sym e))
-  | inr ne ↦ ne_eqb x y ne ∙ sym (ne_eqb y x (λ e. ne (sym e)))
+-- numbers differ where their parts do
+pub told_parts : (w count old new : ℕ) → old < 2 ^ (count * w) → new < 2 ^ (count * w) → (new == old) ≡ same_lists (parts w count new) (parts w count old)
+told_parts w count old new low_old low_new = elim (cases_eq new old) [
+  | inl e ↦ eq-eqb new old e ∙ sym (same_true (parts w count new) (parts w count old) (ap (parts w count) e))
+  | inr ne ↦ ne_eqb new old ne ∙ sym (same_false (parts w count new) (parts w count old) (λ e. ne (whole new low_new ∙ ap (number_of_parts w) e ∙ sym (whole old low_old))))
 ]
+  where
+    whole : (n : ℕ) → n < 2 ^ (count * w) → n ≡ number_of_parts w (parts w count n)
+    whole n lt = sym (parts_make w count n ∙ mod-eq_of_lt lt)

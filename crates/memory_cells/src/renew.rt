@@ -1,5 +1,5 @@
 //! The writes of a round.
-ghost use Rattle.std.specs.Prelude.{◌≡◌, ◌+◌, ◌*◌, ◌/◌, ◌%◌, ◌^◌, ◌<◌, ◌≤◌, ◌==◌, not, nat_eq, Some, slice_set};
+ghost use Rattle.std.specs.Prelude.{◌≡◌, ◌*◌, ◌<◌, not, nat_eq, Some, slice_set};
 ghost use Rattle.std.specs.Cmp.Lexicographic.{pointwise};
 ghost use Rattle.std.specs.Option.{ForSome};
 ghost use Rattle.circuit.specs.Next.{next_rows};
@@ -108,26 +108,5 @@ fn put_place(mem: &Mem, place: u32, row: &Bits, rows: &mut Bits) -> bool
 {
     let _ = rows.width();
     let width = row.width();
-    let at = place * mem.width;
-    let changed = !is_part(rows, at, row);
-    rows.copy(at, row, 0, width);
-    changed
-}
-
-/// Whether the bits from `at` on are those of the row.
-fn is_part(rows: &Bits, at: u32, row: &Bits) -> bool
-    requires { at + row.now.width ≤ rows.now.width }
-    ensures { result ≡ (rows.now.number / 2 ^ at % 2 ^ row.now.width == row.now.number) }
-{
-    let _ = rows.width();
-    let width = row.width();
-    let mut done = 0u32;
-    while done < width {
-        let n = (width - done).min(64);
-        if rows.field(at + done, n) != row.field(done, n) {
-            return false;
-        }
-        done += n;
-    }
-    true
+    rows.copy(place * mem.width, row, 0, width)
 }

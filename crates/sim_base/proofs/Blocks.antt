@@ -1,5 +1,6 @@
 -- The words of one value among those of all.
-use Rattle.std.proofs.Common.{◌≡◌, ℕ, zero, suc, ◌+◌, ◌-◌, ◌<◌, ◌≤◌, List, [], ◌∷◌, length, map, take, drop, get_or, set, replicate, refl, ◌∙◌, ap, arith}
+use Rattle.std.proofs.Common.{◌≡◌, ℕ, zero, suc, ◌+◌, ◌-◌, ◌<◌, ◌≤◌, List, [], ◌∷◌, length, map, take, drop, get_or, set, replicate, refl, sym, ◌∙◌, ap, arith}
+use Rattle.std.proofs.lemmas.List.Sums.{sum_by-cons}
 use Rattle.std.proofs.lemmas.List.{take-set-le, drop-set-lt, drop-set-add, drop-drop, take-replicate, drop-replicate}
 use Rattle.std.proofs.Math.Seq.{take-set-lt}
 use Rattle.sim_base.specs.BitValue.{BitValue, bit_value, zeros, number_of_words}
@@ -22,16 +23,17 @@ widths_of_values (w ∷ ws) xs = ap (λ (l : List ℕ). w ∷ l) (widths_of_valu
 
 -- a value's words lie within
 pub room_for : (ws : List ℕ) (n : ℕ) → n < length ws → place_of ws n + words_of (get_or ws n 0) ≤ room_of ws
-unfolding place_of room_of
+unfolding place_of
 room_for [] n lt = absurd (omega (arith, lt))
-room_for (w ∷ ws) zero lt = omega arith
-room_for (w ∷ ws) (suc n) lt = let e : place_of ws n + words_of (get_or ws n 0) ≤ room_of ws = room_for ws n (omega (arith, lt)) in omega arith
+room_for (w ∷ ws) zero lt = omega (arith, sum_by-cons words_of w ws)
+room_for (w ∷ ws) (suc n) lt =
+    let e : place_of ws n + words_of (get_or ws n 0) ≤ room_of ws = room_for ws n (omega (arith, lt)) in
+    omega (arith, sum_by-cons words_of w ws)
 
 -- each value has a word
 pub fewer : (ws : List ℕ) → length ws ≤ room_of ws
-unfolding room_of
 fewer [] = omega arith
-fewer (w ∷ ws) = omega (arith, fewer ws)
+fewer (w ∷ ws) = omega (arith, fewer ws, sum_by-cons words_of w ws)
 
 -- the next place
 pub place_step : (ws : List ℕ) (n : ℕ) → n < length ws → place_of ws (n + 1) ≡ place_of ws n + words_of (get_or ws n 0)
@@ -46,9 +48,9 @@ place_step (w ∷ ws) (suc n) lt =
     ap (place_of (w ∷ ws)) z ∙ s
 
 pub place_end : (ws : List ℕ) → place_of ws (length ws) ≡ room_of ws
-unfolding place_of room_of
+unfolding place_of
 place_end [] = refl
-place_end (w ∷ ws) = ap (λ n. words_of w + n) (place_end ws)
+place_end (w ∷ ws) = ap (λ n. words_of w + n) (place_end ws) ∙ sym (sum_by-cons words_of w ws)
 
 pub place_start : (ws : List ℕ) → place_of ws 0 ≡ 0
 unfolding place_of
@@ -88,9 +90,10 @@ values_set (w ∷ ws) xs (suc n) k v lt in' =
 
 -- zeros
 pub values_of_zeros : (ws : List ℕ) (r : ℕ) → room_of ws ≤ r → values_of ws (replicate r 0) ≡ map zeros ws
-unfolding values_of room_of
+unfolding values_of
 values_of_zeros [] r le = refl
 values_of_zeros (w ∷ ws) r le =
+    let more : room_of (w ∷ ws) ≡ words_of w + room_of ws = sum_by-cons words_of w ws in
     let front : take (words_of w) (replicate {A = ℕ} r 0) ≡ replicate (words_of w) 0 = take-replicate (words_of w) r 0 (omega (arith, le)) in
     let back : drop (words_of w) (replicate {A = ℕ} r 0) ≡ replicate (r - words_of w) 0 = drop-replicate (words_of w) r 0 in
     ap (λ (l : List ℕ). bit_value w (number_of_words l) ∷ values_of ws (drop (words_of w) (replicate r 0))) front

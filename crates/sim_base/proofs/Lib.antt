@@ -3,6 +3,7 @@ pub mod Words
 pub mod Parts
 pub mod Field
 pub mod Copies
+pub mod Told
 pub mod HexadecimalTexts
 pub mod Numerals
 pub mod Blocks

@@ -1,15 +1,16 @@
 -- Digits that are written to one value of several.
 use Rattle.std.proofs.Common.{◌≡◌, ℕ, zero, suc, ◌+◌, ◌/◌, ◌%◌, ◌^◌, ◌*◌, ◌-◌, ◌<◌, ◌≤◌, Bool, false, not, ◌||◌, ◌==◌, List, [], ◌∷◌, length, get_or, set, refl, sym, ◌∙◌, ap, subst, arith, inl, inr}
-use Rattle.std.proofs.lemmas.Bool.{cases_lt, ne_eqb, eq-eqb}
+use Rattle.std.proofs.lemmas.Bool.{ne_eqb, eq-eqb}
 use Rattle.std.proofs.lemmas.Bool.Decides.{eqb_tells}
-use Rattle.std.proofs.lemmas.List.{get_or-set_same, set-get_or, length-set}
+use Rattle.std.proofs.lemmas.List.{length-set}
 use Rattle.std.proofs.lemmas.Nat.{mod_below, pow_pos}
-use Rattle.std.proofs.lemmas.Nat.Bits.{same_from_bits, same_from_bits_below}
+use Rattle.std.proofs.lemmas.Nat.Bits.{same_from_bits_below}
 use Rattle.std.specs.Int.{bit_at}
-use Rattle.sim_base.specs.BitValue.{BitValue, bit_value, number_of_words, digit_after_copy, AreWords}
+use Rattle.sim_base.specs.BitValue.{BitValue, bit_value, number_of_words, digit_after_copy}
 use Rattle.sim_base.proofs.Field.{bit_at_mod, bit_at_shr}
-use Rattle.sim_base.proofs.Words.{copied_in, copied_below, copied_above, copied_none, same_words, fit_set}
+use Rattle.sim_base.proofs.Words.{copied_in, copied_none}
 use Rattle.sim_base.proofs.Copies.{copied_word, copied_number_below, copied_join, placed_word, placed_below}
+use Rattle.sim_base.proofs.Told.{told_none, told_more, told_word}
 use Rattle.sim_base.specs.Values.{widths, width_at, number_at, words_of, place_of, values_of, with_number, IsLaidOut, IsPut}
 use Rattle.sim_base.proofs.Blocks.{block}
 use Rattle.sim_base.proofs.Held.{width_is, place_is, below, number_of_block, length_of_block, fit_block, word_of_block, word_inside, set_view, set_laid, numbers_set, widths_kept}
@@ -35,14 +36,8 @@ pub copied_nothing : (values : List BitValue) (n at from from_at : ℕ) → IsCo
 copied_nothing values n at from from_at = record {
   value = set_own values n;
   bits = λ j. sym (copied_none at from from_at (number_at values n) j);
-  changed = ap not (sym (eq-eqb (number_at values n) (number_at values n) refl));
+  changed = told_none (number_at values n);
 }
-
-told_join : (old mid new : ℕ) → (new ≡ old → mid ≡ old) → (not (mid == old) || not (new == mid)) ≡ not (new == old)
-told_join old mid new back = elim (eqb_tells mid old) [
-  | inl t ↦ ap (λ b. not b || not (new == mid)) t.0 ∙ ap (λ m. not (new == m)) t.1
-  | inr f ↦ ap (λ b. not b || not (new == mid)) f.0 ∙ ap not (sym (ne_eqb new old (λ e. f.1 (back e))))
-]
 
 -- digits after digits
 pub copied_more : (old mid new : List BitValue) (n at from from_at k m v : ℕ) (a b : Bool) → IsCopied old mid n at from from_at k a → IsCopied mid new n (at + k) v 0 m b → ((i : ℕ) → i < m → bit_at v i ≡ bit_at from (from_at + k + i)) → IsCopied old new n at from from_at (k + m) (a || b)
@@ -52,11 +47,7 @@ copied_more old mid new n at from from_at k m v a b first second same = record {
       ∙ ap (λ (l : List BitValue). set l n (bit_value (width_at old n) (number_at new n))) first.value
       ∙ set_twice old n (bit_value (width_at old n) (number_at mid n)) (bit_value (width_at old n) (number_at new n));
   bits = copied_join at from from_at k m (number_at old n) (number_at mid n) (number_at new n) v first.bits second.bits same;
-  changed = ap (λ x. x || b) first.changed ∙ ap (λ x. not (number_at mid n == number_at old n) || x) second.changed
-      ∙ told_join (number_at old n) (number_at mid n) (number_at new n) (λ e. same_from_bits (number_at mid n) (number_at old n) (λ j. elim (cases_lt j (at + k)) [
-        | inl c ↦ sym (copied_below (at + k) v 0 m (number_at mid n) j c) ∙ sym (second.bits j) ∙ ap (λ x. bit_at x j) e
-        | inr d ↦ first.bits j ∙ copied_above at from from_at k (number_at old n) j d
-      ]));
+  changed = told_more at from from_at k m (number_at old n) (number_at mid n) (number_at new n) v a b first.bits second.bits first.changed second.changed;
 }
 
 -- the value stays where it is, with its width
@@ -76,18 +67,6 @@ more_bits old mid new n from k m v a b first second same =
 pub more_word : (old mid new : List BitValue) (n from k m v : ℕ) (a b : Bool) → IsCopied old mid n 0 from 0 k a → IsCopied mid new n k v 0 m b → v ≡ from / 2 ^ k % 2 ^ m → IsCopied old new n 0 from 0 (k + m) (a || b)
 more_word old mid new n from k m v a b first second e =
     more_bits old mid new n from k m v a b first second (λ i lt. ap (λ x. bit_at x i) e ∙ bit_at_mod (from / 2 ^ k) m i lt ∙ bit_at_shr from k i)
-
--- a test of two words is one of the numbers
-told_word : (ws : List ℕ) (k x : ℕ) → AreWords ws → x < 2 ^ 64 → k < length ws → (get_or ws k 0 == x) ≡ (number_of_words (set ws k x) == number_of_words ws)
-told_word ws k x fit fits lt = elim (eqb_tells (get_or ws k 0) x) [
-  | inl t ↦
-      (let e : set ws k x ≡ ws = ap (λ y. set ws k y) (sym t.1) ∙ set-get_or ws k 0 in
-      t.0 ∙ sym (eq-eqb (number_of_words (set ws k x)) (number_of_words ws) (ap number_of_words e)))
-  | inr f ↦
-      f.0 ∙ sym (ne_eqb (number_of_words (set ws k x)) (number_of_words ws) (λ e.
-      let s : set ws k x ≡ ws = same_words (set ws k x) ws (fit_set ws k x fit fits) fit (length-set ws k x) e in
-      f.1 (ap (λ (l : List ℕ). get_or l k 0) (sym s) ∙ get_or-set_same ws k x 0 lt)))
-]
 
 pub digit_inside : (words ws places : List ℕ) (values : List BitValue) (n i p at k : ℕ) (laid : IsLaidOut words ws places) (view : values_of ws words ≡ values) (lt : n < length values) → p ≡ place_of (widths values) n → i ≡ p + at / 64 → 0 < k → at + k ≤ width_at values n → i < length words
 digit_inside words ws places values n i p at k laid view lt e f some inside =

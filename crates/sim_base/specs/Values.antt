@@ -1,5 +1,5 @@
 -- Values of bits, one after another in words of 64 bits.
-use Rattle.std.specs.Prelude.{◌≡◌, ℕ, zero, suc, ◌+◌, ◌-◌, ◌/◌, ◌^◌, ◌<◌, ◌==◌, List, [], ◌∷◌, length, map, take, drop, Bool, not, slice_index, slice_set}
+use Rattle.std.specs.Prelude.{◌≡◌, ℕ, zero, suc, ◌+◌, ◌-◌, ◌/◌, ◌^◌, ◌<◌, ◌==◌, List, [], ◌∷◌, length, map, take, drop, sum_by, Bool, not, slice_index, slice_set}
 use Rattle.sim_base.specs.BitValue.{BitValue, bit_value, number_of_words, AreWords}
 
 abbrev pub numbers : List BitValue → List ℕ
@@ -39,9 +39,8 @@ place_of (w ∷ ws) zero = 0
 place_of (w ∷ ws) (suc n) = words_of w + place_of ws n
 
 -- how many words values of these widths take
-unfoldable pub room_of : List ℕ → ℕ
-room_of [] = 0
-room_of (w ∷ ws) = words_of w + room_of ws
+abbrev pub room_of : List ℕ → ℕ
+room_of widths = sum_by words_of widths
 
 -- the values of these widths that words stand for
 unfoldable pub values_of : List ℕ → List ℕ → List BitValue

@@ -1,5 +1,5 @@
 //! A value of bits: a width and a number below 2 to that width, kept in words of 64 bits.
-ghost use Rattle.std.specs.Prelude.{◌≡◌, ◌↔◌, ℕ, ◌+◌, ◌-◌, ◌*◌, ◌/◌, ◌%◌, ◌^◌, ◌<◌, ◌≤◌, length, nat_lt, if◌then◌else◌, IfOk, IsTrue};
+ghost use Rattle.std.specs.Prelude.{◌≡◌, ◌↔◌, ℕ, ◌+◌, ◌-◌, ◌*◌, ◌/◌, ◌%◌, ◌^◌, ◌<◌, ◌≤◌, ◌==◌, not, length, slice_index, slice_set, nat_lt, if◌then◌else◌, IfOk, IsTrue};
 ghost use Rattle.std.specs.Int.{bit_at};
 ghost use Rattle.sim_base.specs.BitValue.{AreWords, number_of_words, BitValue, digit_of, zeros, digit_after_set, digit_after_copy, bit_value};
 
@@ -93,36 +93,44 @@ impl Bits {
         self.words[at] = word;
     }
 
-    /// Copies `n` bits of `from`, beginning with its bit `from_at`, to the bits from `at` on.
-    pub fn copy(&mut self, at: u32, from: &Bits, from_at: u32, n: u32)
+    /// Copies `n` bits of `from`, beginning with its bit `from_at`, to the bits from `at` on, and tells whether the
+    /// number changed.
+    pub fn copy(&mut self, at: u32, from: &Bits, from_at: u32, n: u32) -> bool
         requires inside { at + n ≤ self.old.width }
         requires from_inside { from_at + n ≤ from.now.width }
         ensures width { self.new.width ≡ self.old.width }
         ensures below { self.new.number < 2 ^ self.new.width }
         ensures bits { (j : ℕ) → bit_at self.new.number j ≡ digit_after_copy at from.now.number from_at n self.old.number j }
+        ensures changed { result ≡ not (self.new.number == self.old.number) }
     {
         let _ = self.width();
         let _ = from.width();
+        let mut changed = false;
         let mut done = 0u32;
         while done < n {
             let part = (n - done).min(64);
             let v = from.field(from_at + done, part);
-            self.put_field(at + done, part, v);
+            let more = self.put_field(at + done, part, v);
+            changed |= more;
             done += part;
         }
+        changed
     }
 
-    /// Writes the lowest `n` digits of `v`, at most 64, to the bits from `at` on.
-    pub fn put_field(&mut self, at: u32, n: u32, v: u64)
+    /// Writes the lowest `n` digits of `v`, at most 64, to the bits from `at` on, and tells whether the number changed.
+    pub fn put_field(&mut self, at: u32, n: u32, v: u64) -> bool
         requires small { n ≤ 64 }
         requires inside { at + n ≤ self.old.width }
         ensures width { self.new.width ≡ self.old.width }
         ensures below { self.new.number < 2 ^ self.new.width }
         ensures bits { (j : ℕ) → bit_at self.new.number j ≡ digit_after_copy at v 0 n self.old.number j }
+        ensures changed { result ≡ not (self.new.number == self.old.number) }
     {
-        if n > 0 {
-            put_fields(&mut self.words, at as usize, n, v);
+        let _ = self.width();
+        if n == 0 {
+            return false;
         }
+        put_fields(&mut self.words, at as usize, n, v)
     }
 
     /// The number of the `n` bits, at most 64, from `at` on.
@@ -254,20 +262,33 @@ pub(crate) fn merged(word: u64, off: u32, n: u32, v: u64) -> u64
     (word & !(ones << off)) | ((v & ones) << off)
 }
 
-fn put_digits(words: &mut Vec<u64>, at: usize, n: u32, v: u64)
+/// Writes a word, and tells whether it was another.
+#[inline(always)]
+pub(crate) fn store(words: &mut Vec<u64>, place: usize, v: u64) -> bool
+    requires { place < length words.old.items }
+    ensures items { words.new.items ≡ slice_set words.old.items place v }
+    ensures changed { (old : ℕ) → slice_index words.old.items place ≡ old → result ≡ not (old == v) }
+{
+    let old = words[place];
+    words[place] = v;
+    old != v
+}
+
+fn put_digits(words: &mut Vec<u64>, at: usize, n: u32, v: u64) -> bool
     requires there { at / 64 < length words.old.items }
     requires inside { at % 64 + n ≤ 64 }
     requires fit { AreWords words.old.items }
     ensures length { length words.new.items ≡ length words.old.items }
     ensures fit { AreWords words.new.items }
     ensures bits { (j : ℕ) → bit_at (number_of_words words.new.items) j ≡ digit_after_copy at v 0 n (number_of_words words.old.items) j }
+    ensures changed { result ≡ not (number_of_words words.new.items == number_of_words words.old.items) }
 {
     let k = at / 64;
     let word = merged(words[k], (at % 64) as u32, n, v);
-    words[k] = word;
+    store(words, k, word)
 }
 
-fn put_fields(words: &mut Vec<u64>, at: usize, n: u32, v: u64)
+fn put_fields(words: &mut Vec<u64>, at: usize, n: u32, v: u64) -> bool
     requires small { n ≤ 64 }
     requires some { 0 < n }
     requires place { at < 2 ^ 32 }
@@ -276,10 +297,14 @@ fn put_fields(words: &mut Vec<u64>, at: usize, n: u32, v: u64)
     ensures length { length words.new.items ≡ length words.old.items }
     ensures fit { AreWords words.new.items }
     ensures bits { (j : ℕ) → bit_at (number_of_words words.new.items) j ≡ digit_after_copy at v 0 n (number_of_words words.old.items) j }
+    ensures changed { result ≡ not (number_of_words words.new.items == number_of_words words.old.items) }
 {
     let first = n.min(64 - (at % 64) as u32);
-    put_digits(words, at, first, v);
+    let changed = put_digits(words, at, first, v);
     if first < n {
-        put_digits(words, at + first as usize, n - first, v >> first);
+        let more = put_digits(words, at + first as usize, n - first, v >> first);
+        changed | more
+    } else {
+        changed
     }
 }

@@ -11,8 +11,6 @@ mod memory;
 mod name;
 mod shape;
 mod steps;
-#[cfg(test)]
-mod tests;
 mod time;
 mod values;
 mod view;

@@ -2,9 +2,9 @@
 ghost use Rattle.std.specs.Prelude.{◌≡◌, ℕ, ◌+◌, ◌-◌, ◌*◌, ◌/◌, ◌%◌, ◌^◌, ◌<◌, ◌≤◌, ◌==◌, not, length, map, slice_get, slice_index, slice_set, Some, IfOk, IfSome, IsSome, ◌↔◌};
 ghost use Rattle.std.specs.Int.{bit_at};
 ghost use Rattle.sim_base.specs.BitValue.{BitValue, bit_value, digit_after_copy, zeros};
-ghost use Rattle.sim_base.specs.Values.{IsPut, number_at, place_of, width_at, widths, with_number, words_of};
+ghost use Rattle.sim_base.specs.Values.{IsPut, number_at, place_of, room_of, width_at, widths, with_number, words_of};
 
-use crate::bits::{Bits, merged};
+use crate::bits::{Bits, merged, store};
 use crate::memory::NoMemory;
 use crate::view::BitsView;
 use std::alloc::Global;
@@ -42,8 +42,16 @@ impl Model for Values {
 }
 
 impl Values {
-    /// Zeros of these widths. It is no memory, too, where all together have 2^32 words.
+    /// How many words of 64 bits a value of this width takes; one without a bit takes one, too.
+    pub fn words_of(width: u32) -> u32
+        ensures { result ≡ words_of width }
+    {
+        width.saturating_sub(1) / 64 + 1
+    }
+
+    /// Zeros of these widths.
     pub fn new(alloc: Global, widths: &[u32]) -> Result<Values, NoMemory>
+        requires few { room_of widths.now < 2 ^ 32 }
         ensures { IfOk result (λ values. values ≡ map zeros widths.now) }
     {
         let mut spans = Vec::with_capacity(alloc, widths.len())?;
@@ -53,10 +61,7 @@ impl Values {
                 place,
                 width: *width,
             })?;
-            let Some(next) = place.checked_add(words_of(*width)) else {
-                return Err(NoMemory);
-            };
-            place = next;
+            place += Values::words_of(*width);
         }
         let words = vec![in alloc; 0u64; place as usize]?;
         Ok(Values { words, spans })
@@ -64,6 +69,7 @@ impl Values {
 
     /// These values.
     pub fn of(alloc: Global, values: &[Bits]) -> Result<Values, NoMemory>
+        requires few { room_of (widths values.now) < 2 ^ 32 }
         ensures { IfOk result (λ all. all ≡ values.now) }
     {
         let mut all = zeros_like(alloc, values)?;
@@ -262,6 +268,7 @@ impl Values {
 
 /// Zeros of the widths of these values.
 fn zeros_like(alloc: Global, values: &[Bits]) -> Result<Values, NoMemory>
+    requires few { room_of (widths values.now) < 2 ^ 32 }
     ensures { IfOk result (λ all. all ≡ map zeros (widths values.now)) }
 {
     let mut widths = Vec::new(alloc);
@@ -269,23 +276,4 @@ fn zeros_like(alloc: Global, values: &[Bits]) -> Result<Values, NoMemory>
         widths.push(value.width())?;
     }
     Values::new(alloc, widths.as_slice())
-}
-
-/// How many words a value of this width takes.
-fn words_of(width: u32) -> u32
-    ensures { result ≡ words_of width }
-{
-    width.saturating_sub(1) / 64 + 1
-}
-
-/// Writes a word, and tells whether it was another.
-#[inline(always)]
-fn store(words: &mut Vec<u64>, place: usize, v: u64) -> bool
-    requires { place < length words.old.items }
-    ensures items { words.new.items ≡ slice_set words.old.items place v }
-    ensures changed { (old : ℕ) → slice_index words.old.items place ≡ old → result ≡ not (old == v) }
-{
-    let old = words[place];
-    words[place] = v;
-    old != v
 }

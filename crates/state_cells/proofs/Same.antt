@@ -1,8 +1,6 @@
 -- Values of bits that are the same.
-use Rattle.std.proofs.Common.{◌≡◌, ℕ, ◌+◌, ◌-◌, ◌^◌, ◌<◌, ◌↔◌, Bool, true, false, eqb, refl, sym, ◌∙◌, ap, subst, arith, inl, inr}
-use Rattle.std.specs.Prelude.{◌==◌}
-use Rattle.std.proofs.lemmas.Bool.{cases_lt, eq-eqb, ne_eqb}
-use Rattle.std.proofs.lemmas.Bool.Decides.{nat_tests}
+use Rattle.std.proofs.Common.{◌≡◌, ℕ, ◌+◌, ◌-◌, ◌^◌, ◌<◌, sym, ◌∙◌, ap, subst, arith, inl, inr}
+use Rattle.std.proofs.lemmas.Bool.{cases_lt}
 use Rattle.std.proofs.lemmas.Nat.Bits.{same_from_bits, bit_at_above}
 use Rattle.std.specs.Int.{bit_at}
 use Rattle.sim_base.specs.BitValue.{BitValue, bit_value, digit_after_copy}
@@ -18,11 +16,6 @@ copied_all w v old new below fits bits = same_from_bits new v (λ j. elim (cases
   | inr b ↦ bit_at_above new w j below b ∙ sym (bit_at_above v w j fits b)
 ])
 
--- whether the number differs, of two values of one width
-pub told_same : (same : Bool) (x y : BitValue) → x.width ≡ y.width → ((same ≡ true) ↔ (x ≡ y)) → same ≡ eqb y.number x.number
-told_same true x y e iff = sym (eq-eqb y.number x.number (ap (λ (v : BitValue). v.number) (sym (iff.0 refl))))
-told_same false x y e iff = sym (ne_eqb y.number x.number (λ f. let no : false ≡ true = iff.1 (same_value x y e (sym f)) in cc))
-
 -- a copy of all digits of a value
 pub copied_value : (w : ℕ) (from : BitValue) (old : ℕ) (new : BitValue) → w ≡ from.width → new.width ≡ from.width → new.number < 2 ^ new.width → from.number < 2 ^ from.width
     → ((j : ℕ) → bit_at new.number j ≡ digit_after_copy 0 from.number 0 w old j) → new ≡ from
@@ -30,7 +23,3 @@ copied_value w from old new width same below fits bits =
     let P : ℕ → Type 0 = λ n. new.number < 2 ^ n in
     let Q : ℕ → Type 0 = λ n. (j : ℕ) → bit_at new.number j ≡ digit_after_copy 0 from.number 0 n old j in
     same_value new from same (copied_all from.width from.number old new.number (subst P same below) fits (subst Q width bits))
-
--- a number is the other one where that is this one
-pub told_either_way : (m n : ℕ) → (m == n) ≡ (n == m)
-told_either_way m n = grind (arith, nat_tests)

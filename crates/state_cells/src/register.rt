@@ -60,16 +60,14 @@ fn put_whole(reg: &Reg, source: Source, nets: &Values, into: &mut Values, out: u
     }
 }
 
-/// Puts another value of the same width.
+/// Puts another value of the same width, and tells whether the number changed.
 pub fn put_value(value: &Bits, into: &mut Bits) -> bool
     requires { into.old.width ≡ value.now.width }
     ensures value { into.new ≡ value.now }
     ensures changed { result ≡ not (into.new.number == into.old.number) }
 {
-    let changed = !into.same(value);
     let width = value.width();
-    into.copy(0, value, 0, width);
-    changed
+    into.copy(0, value, 0, width)
 }
 
 /// Puts the number of a signal of the same width.

@@ -1,13 +1,16 @@
 //! What numbers of 32 bits can count.
-ghost use Rattle.std.specs.Prelude.{◌≡◌, length, min, sum_by};
+ghost use Rattle.std.specs.Prelude.{◌≡◌, ◌&&◌, length, min, sum_by};
 ghost use Rattle.circuit.specs.Shown.{slots_of};
 ghost use Rattle.circuit.specs.Valuation.{bits_of};
-ghost use Rattle.circuit.specs.Valid.{counts_fit, is_countable, node_count, slot_count};
+ghost use Rattle.circuit.specs.Valid.{counts_fit, is_countable, net_words, node_count, output_words, register_words, slot_count};
 
+use crate::cell::Cell;
 use crate::item::Item;
 use crate::memory::Mem;
 use crate::netlist::{Circuit, Net};
+use crate::register::Reg;
 use crate::validity::items::slots_of;
+use sim_base::Values;
 
 /// Whether fewer than 4,294,967,296 are counted.
 pub fn is_countable(count: usize) -> bool
@@ -51,6 +54,39 @@ fn bits_of_nets(nets: &[Net]) -> u64
     bits
 }
 
+/// How many words the values of nets take, and 2 ^ 32 where they take more.
+fn words_of_nets(nets: &[Net]) -> u64
+    ensures { result ≡ min (net_words nets.now) 4294967296 }
+{
+    let mut words = 0u64;
+    for net in nets {
+        words = (words + u64::from(Values::words_of(net.width))).min(4_294_967_296);
+    }
+    words
+}
+
+/// How many words the outputs of cells take, and 2 ^ 32 where they take more.
+fn words_of_outputs(cells: &[Cell]) -> u64
+    ensures { result ≡ min (output_words cells.now) 4294967296 }
+{
+    let mut words = 0u64;
+    for cell in cells {
+        words = (words + u64::from(Values::words_of(cell.width))).min(4_294_967_296);
+    }
+    words
+}
+
+/// How many words the start values of registers take, and 2 ^ 32 where they take more.
+fn words_of_registers(regs: &[Reg]) -> u64
+    ensures { result ≡ min (register_words regs.now) 4294967296 }
+{
+    let mut words = 0u64;
+    for reg in regs {
+        words = (words + u64::from(Values::words_of(reg.init.width()))).min(4_294_967_296);
+    }
+    words
+}
+
 fn slots_fit(circuit: &Circuit) -> bool
     ensures { result ≡ is_countable (slot_count circuit.now) }
 {
@@ -71,8 +107,16 @@ fn bits_fit(circuit: &Circuit) -> bool
     bits_of_nets(circuit.nets.as_slice()) < 1 << 32
 }
 
-/// Whether the parts of a circuit, its slots, the nodes of an order and the bits of its nets can be
-/// numbered.
+fn words_fit(circuit: &Circuit) -> bool
+    ensures { result ≡ is_countable (net_words circuit.now.nets) && (is_countable (output_words circuit.now.cells) && is_countable (register_words circuit.now.regs)) }
+{
+    words_of_nets(circuit.nets.as_slice()) < 1 << 32
+        && (words_of_outputs(circuit.cells.as_slice()) < 1 << 32
+            && words_of_registers(circuit.regs.as_slice()) < 1 << 32)
+}
+
+/// Whether the parts of a circuit, its slots, the nodes of an order, the bits of its nets and the words of its values
+/// can be numbered.
 pub fn counts_fit(circuit: &Circuit) -> bool
     ensures { result ≡ counts_fit circuit.now }
 {
@@ -83,5 +127,6 @@ pub fn counts_fit(circuit: &Circuit) -> bool
                     && (is_countable(circuit.inputs.len())
                         && (is_countable(circuit.scopes.len())
                             && (slots_fit(circuit)
-                                && (nodes_fit(circuit) && bits_fit(circuit))))))))
+                                && (nodes_fit(circuit)
+                                    && (bits_fit(circuit) && words_fit(circuit)))))))))
 }

@@ -1,10 +1,8 @@
-use Rattle.std.proofs.Common.{◌≡◌, ◌*◌, ◌/◌, ◌%◌, ◌^◌, ◌<◌, ℕ, List, get_or, eqb, not, sym, ◌∙◌, ap, subst, arith}
+use Rattle.std.proofs.Common.{◌≡◌, ◌*◌, ◌^◌, ◌<◌, ℕ, List, not, sym, ◌∙◌, ap, subst}
 use Rattle.std.specs.Int.{bit_at}
 use Rattle.sim_base.specs.BitValue.{digit_after_copy}
-use Rattle.sim_base.specs.Parts.{parts}
-use Rattle.sim_base.proofs.Parts.{length-parts, part_at}
 use Rattle.memory_cells.proofs.SetPart.{parts_set}
-use Rattle.memory_cells.proofs.Told.{same_lists, told_one, eqb_other_way}
+use Rattle.memory_cells.proofs.Told.{told_parts}
 use Rattle.memory_cells.proofs.renew.put_place.Goals as goal
 
 pub returns-clause-rows : goal.returns-clause-rows
@@ -18,12 +16,7 @@ returns-clause-rows c =
 
 pub returns-clause-changed : goal.returns-clause-changed
 returns-clause-changed c =
-    let w = c.args.mem.now.width in
-    let old = parts w c.args.mem.now.size c.args.rows.now.number in
-    let own : get_or old c.args.place 0 ≡ c.args.rows.now.number / 2 ^ (c.args.place * w) % 2 ^ w = part_at w c.args.mem.now.size c.args.rows.now.number c.args.place c.requires.there in
-    ap not (c.is_part-changed.ensures
-    ∙ ap (λ n. eqb (c.args.rows.now.number / 2 ^ (c.args.place * w) % 2 ^ n) c.args.row.now.number) c.requires.row
-    ∙ ap (λ n. eqb n c.args.row.now.number) (sym own)
-    ∙ eqb_other_way (get_or old c.args.place 0) c.args.row.now.number
-    ∙ sym (told_one old c.args.place c.args.row.now.number (omega (arith, length-parts w c.args.mem.now.size c.args.rows.now.number, c.requires.there)))
-    ∙ ap (λ (xs : List ℕ). same_lists xs old) (sym (returns-clause-rows c)))
+    let m = c.args.mem.now in
+    let old : c.args.rows.now.number < 2 ^ (m.size * m.width) = subst (λ k. c.args.rows.now.number < 2 ^ k) c.requires.rows c.width.ensures.below in
+    let new : c.copy.new.self.number < 2 ^ (m.size * m.width) = subst (λ k. c.copy.new.self.number < 2 ^ k) (c.copy.ensures.width ∙ c.requires.rows) c.copy.ensures.below in
+    c.copy.ensures.changed ∙ ap not (told_parts m.width m.size c.args.rows.now.number c.copy.new.self.number old new)

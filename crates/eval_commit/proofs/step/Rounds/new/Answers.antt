@@ -1,8 +1,15 @@
-use Rattle.std.proofs.Common.{◌∙◌, ap, map}
+use Rattle.std.proofs.Common.{◌≡◌, ◌∙◌, ap, map, arith}
+use Rattle.circuit.specs.Valid.{register_words}
 use Rattle.circuit.specs.declared.register.Reg.{Reg}
+use Rattle.circuit.proofs.Grown.{fitting_of}
 use Rattle.eval_commit.specs.declared.step.Rounds.{Rounds}
 use Rattle.eval_commit.proofs.Standing.{AreFirst, first_rounds, first_state}
 use Rattle.eval_commit.proofs.step.Rounds.new.Goals as goal
+
+pub start_regs-requires : goal.start_regs-requires
+start_regs-requires c =
+    let few = (fitting_of c.args.circuit.now c.requires).counts.register_words in
+    omega (arith, few, ap register_words c.as_slice.ensures)
 
 -- what is made
 abbrev made : goal.In_ok-start_fired → Rounds

@@ -1,4 +1,4 @@
-use Rattle.std.proofs.Common.{◌≡◌, ◌+◌, ◌/◌, ◌%◌, ◌^◌, ◌∙◌, ap}
+use Rattle.std.proofs.Common.{◌∙◌, ap}
 use Rattle.sim_base.specs.BitValue.{BitValue}
 use Rattle.sim_base.proofs.Parts.{part_is}
 use Rattle.sim_base.proofs.bits.Bits.part.Goals as goal

@@ -11,5 +11,5 @@ below c =
 pub invariant_of-self : goal.invariant_of-self
 invariant_of-self c = (c.put_fields.ensures.length ∙ c.self.invariant.0, below c, c.put_fields.ensures.fit)
 
-pub returns-then-n-gt0-clause-below : goal.returns-then-n-gt0-clause-below
-returns-then-n-gt0-clause-below c = below c
+pub returns-clause-below : goal.returns-clause-below
+returns-clause-below c = below c

@@ -3,7 +3,7 @@ use Rattle.std.proofs.lemmas.List.{map-append, length-map}
 use Rattle.std.proofs.Math.Seq.{take-suc}
 use Rattle.sim_base.specs.Values.{place_of, room_of, values_of, IsLaidOut}
 use Rattle.sim_base.specs.declared.values.Span.{Span}
-use Rattle.sim_base.proofs.Blocks.{place_start, place_step, place_end, values_of_zeros}
+use Rattle.sim_base.proofs.Blocks.{place_start, place_step, place_end, room_for, values_of_zeros}
 use Rattle.sim_base.proofs.Held.{laid_zeros, placed_more}
 use Rattle.sim_base.proofs.values.Values.new.Goals as goal
 use Rattle.sim_base.proofs.values.Values.new.Goals.{In_ok-words}
@@ -22,6 +22,10 @@ loop-width-init c = record {
   room = sym (place_start c.args.widths.now);
 }
 
+pub overflow_add-place : goal.overflow_add-place
+overflow_add-place c =
+    omega (arith, c.words_of-place.ensures, c.loop-width.invariant.room, c.requires, room_for c.args.widths.now c.loop-width.width-index c.loop-width-test.true)
+
 pub loop-width-preserved : goal.loop-width-preserved
 loop-width-preserved c =
     let e = c.in_ok-push.ensures.items in
@@ -37,17 +41,17 @@ loop-width-preserved c =
           ∙ ap (λ n. take n c.args.widths.now) z;
       placed = λ n h. ap (λ (l : List ℕ). get_or l n 0) (ap places_in e ∙ map-append (λ (s : Span). s.place) c.loop-width.spans.items (new ∷ []))
           ∙ placed_more c.args.widths.now (places_in c.loop-width.spans.items) i c.loop-width.place l c.loop-width.invariant.room c.loop-width.invariant.placed n h;
-      room = c.in-Some.ensures.1 ∙ omega (arith, c.words_of.ensures, c.loop-width.invariant.room, place_step c.args.widths.now i c.loop-width-test.true);
+      room = omega (arith, c.words_of-place.ensures, c.loop-width.invariant.room, place_step c.args.widths.now i c.loop-width-test.true);
     }
-
-few : (c : In_ok-words) → c.loop-width.place < 2 ^ 32
-few c = search
 
 all : (c : In_ok-words) → c.loop-width.width-index ≡ length c.args.widths.now
 all c = omega arith
 
 room : (c : In_ok-words) → c.loop-width.place ≡ room_of c.args.widths.now
 room c = c.loop-width.invariant.room ∙ ap (place_of c.args.widths.now) (all c) ∙ place_end c.args.widths.now
+
+few : (c : In_ok-words) → c.loop-width.place < 2 ^ 32
+few c = omega (arith, room c, c.requires)
 
 words : (c : In_ok-words) → c.in_ok-words.words.items ≡ replicate {A = ℕ} c.loop-width.place 0
 words c = c.in_ok-words.ensures.items_if_clones_equal (λ y e. e)
