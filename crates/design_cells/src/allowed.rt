@@ -20,7 +20,8 @@ use std::alloc::Global;
 /// The most cells, registers, memories, diagnostics and instances together.
 const MOST_PARTS: u64 = 1_000_000;
 
-fn has_room(draft: &Draft) -> bool
+/// Whether there are fewer cells, registers, memories, diagnostics and instances than a design may have.
+pub fn has_room(draft: &Draft) -> bool
     ensures { result ≡ spec.has_room draft.now }
 {
     draft.part_count() < MOST_PARTS as u128

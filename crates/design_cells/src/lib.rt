@@ -7,5 +7,7 @@ mod ports;
 mod register;
 mod signals;
 
+pub use allowed::has_room;
 pub use cell::library_cell;
-pub use ports::JoinedPort;
+pub use ports::{JoinedPort, capped, joined_at, joined_in};
+pub use signals::zero_signal;

@@ -25,7 +25,7 @@ pub struct JoinedPort<'a, 't> {
 }
 
 /// A value as a number of 64 bits, the greatest one where it is above that.
-fn capped(value: &Bits) -> u64
+pub fn capped(value: &Bits) -> u64
     ensures { result ≡ min value.now.number (2 ^ 64 - 1) }
 {
     let width = value.width();
@@ -79,7 +79,7 @@ fn joined_port<'a, 't>(
 }
 
 /// The ports of a cell with what they are joined to.
-pub(crate) fn joined_in<'a, 't>(
+pub fn joined_in<'a, 't>(
     alloc: Global,
     scope: &Table<NamedNet>,
     written: &'a [WrittenPort<'t>],
@@ -121,7 +121,7 @@ pub(crate) fn connections_of<'t>(
 }
 
 /// The port of a name.
-pub(crate) fn joined_at<'s, 'a, 't>(
+pub fn joined_at<'s, 'a, 't>(
     ports: &'s [JoinedPort<'a, 't>],
     name: &[u8],
 ) -> Option<&'s JoinedPort<'a, 't>>

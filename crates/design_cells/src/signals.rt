@@ -43,7 +43,7 @@ pub(crate) fn flag(line: &Line, settings: &[Setting], parameter: Parameter) -> b
 
 /// Zeros as a signal.
 #[tactic(auto, using(crate::proofs::Words::zero_piece))]
-fn zero_signal(alloc: Global, width: u32) -> Result<Items<Piece>, NoMemory>
+pub fn zero_signal(alloc: Global, width: u32) -> Result<Items<Piece>, NoMemory>
     ensures { IfOk result (λ sig. sig ≡ whole (piece.Const (zeros width))) }
 {
     if width == 0 {

@@ -1,11 +1,11 @@
 //! The lists of a circuit as they grow.
-ghost use Rattle.std.specs.Prelude.{◌≡◌, ◌+◌, ◌<◌, ◌^◌, ◌++◌, ◌∷◌, [], OnOk, length, sum_by};
+ghost use Rattle.std.specs.Prelude.{◌≡◌, ◌+◌, ◌*◌, ◌<◌, ◌^◌, ◌++◌, ◌∷◌, [], OnOk, length, sum_by};
 ghost use Rattle.design_parts.specs.Parts.{circuit_of, none_made, part_count};
 ghost use Rattle.rtlil_signals.specs.Drives.{by_at, connected, driven_from};
 ghost use Rattle.rtlil_signals.specs.Spans.{pieces_of};
 ghost use Rattle.circuit.specs.Signal.{sig_width};
 
-use circuit::{Cell, Circuit, Item, Net, Reg};
+use circuit::{Cell, Circuit, Diag, Item, Mem, Net, Reg, Scope};
 use rtlil_signals::{Source, Span, connect, drive};
 use sim_base::NoMemory;
 use sqlite_items::Items;
@@ -19,10 +19,14 @@ pub struct Draft {
     instances: u64,
     /// The bits of all nets.
     bits: u64,
+    /// The rows of all memories.
+    rows: u64,
+    /// The bits of all memories.
+    memory_bits: u64,
 }
 
 impl Model for Draft {
-    ghost use Rattle.std.specs.Prelude.{◌≡◌, sum_by};
+    ghost use Rattle.std.specs.Prelude.{◌≡◌, ◌*◌, sum_by};
     ghost use Rattle.design_parts.specs.Parts.{Made};
 
     ghost Value = { Made };
@@ -40,7 +44,9 @@ impl Model for Draft {
       instances = d.instances;
     } };
 
-    ghost invariant = { λ d. d.bits ≡ sum_by (λ n. n.width) d.circuit.nets };
+    ghost invariant = { λ d. (d.bits ≡ sum_by (λ n. n.width) d.circuit.nets)
+        × (d.rows ≡ sum_by (λ m. m.size) d.circuit.mems)
+        × (d.memory_bits ≡ sum_by (λ m. m.size * m.width) d.circuit.mems) };
 }
 
 impl Draft {
@@ -61,6 +67,8 @@ impl Draft {
             },
             instances: 0,
             bits: 0,
+            rows: 0,
+            memory_bits: 0,
         }
     }
 
@@ -103,6 +111,41 @@ impl Draft {
         self.circuit.regs.len()
     }
 
+    /// How many memories there are.
+    pub fn memory_count(&self) -> usize
+        ensures { result ≡ length self.now.mems }
+    {
+        self.circuit.mems.len()
+    }
+
+    /// How many rows all memories have.
+    pub fn row_count(&self) -> u64
+        ensures { result ≡ sum_by (λ m. m.size) self.now.mems }
+    {
+        self.rows
+    }
+
+    /// How many bits all memories have.
+    pub fn memory_bit_count(&self) -> u64
+        ensures { result ≡ sum_by (λ m. m.size * m.width) self.now.mems }
+    {
+        self.memory_bits
+    }
+
+    /// How many inputs there are.
+    pub fn input_count(&self) -> usize
+        ensures { result ≡ length self.now.inputs }
+    {
+        self.circuit.inputs.len()
+    }
+
+    /// How many scopes there are.
+    pub fn scope_count(&self) -> usize
+        ensures { result ≡ length self.now.scopes }
+    {
+        self.circuit.scopes.len()
+    }
+
     /// Appends a cell.
     pub fn push_cell(&mut self, cell: Cell) -> Result<(), NoMemory>
         ensures { OnOk result (self.new ≡ (record self.old { cells = self.old.cells ++ cell ∷ [] })) }
@@ -128,6 +171,52 @@ impl Draft {
         self.circuit.nets.push(net)?;
         self.bits += width;
         Ok(())
+    }
+
+    /// Appends a memory.
+    pub fn push_memory(&mut self, memory: Mem) -> Result<(), NoMemory>
+        requires rows { sum_by (λ m. m.size) self.old.mems + memory.size < 2 ^ 64 }
+        requires bits { sum_by (λ m. m.size * m.width) self.old.mems + memory.size * memory.width < 2 ^ 64 }
+        ensures { OnOk result (self.new ≡ (record self.old { mems = self.old.mems ++ memory ∷ [] })) }
+    {
+        let rows = memory.size as u64;
+        let bits = rows * memory.width as u64;
+        self.circuit.mems.push(memory)?;
+        self.rows += rows;
+        self.memory_bits += bits;
+        Ok(())
+    }
+
+    /// Appends a diagnostic.
+    pub fn push_diagnostic(&mut self, diagnostic: Diag) -> Result<(), NoMemory>
+        ensures { OnOk result (self.new ≡ (record self.old { diags = self.old.diags ++ diagnostic ∷ [] })) }
+    {
+        self.circuit.diags.push(diagnostic)?;
+        Ok(())
+    }
+
+    /// Appends a scope.
+    pub fn push_scope(&mut self, scope: Scope) -> Result<(), NoMemory>
+        ensures { OnOk result (self.new ≡ (record self.old { scopes = self.old.scopes ++ scope ∷ [] })) }
+    {
+        self.circuit.scopes.push(scope)?;
+        Ok(())
+    }
+
+    /// Appends an input, which is the number of a net.
+    pub fn push_input(&mut self, net: u32) -> Result<(), NoMemory>
+        ensures { OnOk result (self.new ≡ (record self.old { inputs = self.old.inputs ++ net ∷ [] })) }
+    {
+        self.circuit.inputs.push(net)?;
+        Ok(())
+    }
+
+    /// Counts an instance.
+    pub fn add_instance(&mut self)
+        requires { self.old.instances + 1 < 2 ^ 64 }
+        ensures { self.new ≡ (record self.old { instances = self.old.instances + 1 }) }
+    {
+        self.instances += 1;
     }
 
     /// Appends an item.

@@ -8,5 +8,5 @@ mod wire;
 
 pub use assignment::connect;
 pub use here::{Here, Shown};
-pub use text::source_text;
-pub use wire::wires;
+pub use text::{const_text, source_text};
+pub use wire::{is_public, name_fits, shown_name, wires};

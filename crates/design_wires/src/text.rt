@@ -51,7 +51,7 @@ fn value_bytes(alloc: Global, value: &Bits) -> Result<Option<Name>, NoMemory>
 }
 
 /// The text of a constant, if its bits are whole bytes of UTF-8.
-fn const_text(alloc: Global, constant: &Const) -> Result<Option<Name>, NoMemory>
+pub fn const_text(alloc: Global, constant: &Const) -> Result<Option<Name>, NoMemory>
     ensures { IfOk result (λ found. found ≡ const_text constant.now) }
 {
     if let Const::String(quoted) = constant {

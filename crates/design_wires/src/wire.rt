@@ -24,7 +24,8 @@ const MOST_NETS: usize = 1_000_000;
 /// The most bits of all nets of a design.
 const MOST_NET_BITS: u64 = 16_777_216;
 
-fn is_public(name: &[u8]) -> bool
+/// An identifier that is shown begins with `\`.
+pub fn is_public(name: &[u8]) -> bool
     ensures { result ≡ spec.is_public name.now }
 {
     match name.first() {
@@ -34,7 +35,7 @@ fn is_public(name: &[u8]) -> bool
 }
 
 /// What a name that begins with `\` is shown as.
-fn shown_name(alloc: Global, shown: &Shown, name: &[u8]) -> Result<Name, NoMemory>
+pub fn shown_name(alloc: Global, shown: &Shown, name: &[u8]) -> Result<Name, NoMemory>
     requires { spec.is_public name.now ≡ true }
     ensures { IfOk result (λ n. n ≡ spec.shown_name shown.now name.now) }
 {
@@ -43,7 +44,8 @@ fn shown_name(alloc: Global, shown: &Shown, name: &[u8]) -> Result<Name, NoMemor
     Ok(Name::new(bytes))
 }
 
-fn name_fits(shown: &Option<Shown>, name: &[u8]) -> bool
+/// Whether the name that an identifier is shown as is within the limit, where it is shown.
+pub fn name_fits(shown: &Option<Shown>, name: &[u8]) -> bool
     ensures { result ≡ spec.name_fits shown.now name.now }
 {
     let Some(shown) = shown else {

@@ -13,4 +13,4 @@ pub use scope::NamedNet;
 pub use signal::{is_named, spans_of};
 pub use slice::Range;
 pub use span::{Span, part_of, width_of};
-pub use value::{const_bits, const_part, const_width};
+pub use value::{bits_part, const_bits, const_part, const_width};

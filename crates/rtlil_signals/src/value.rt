@@ -91,7 +91,7 @@ pub fn const_bits(alloc: Global, constant: &Const) -> Result<Bits, NoMemory>
 }
 
 /// So many bits of a value, from one on; those beyond it are 0.
-fn bits_part(alloc: Global, whole: &Bits, at: u64, width: u32) -> Result<Bits, NoMemory>
+pub fn bits_part(alloc: Global, whole: &Bits, at: u64, width: u32) -> Result<Bits, NoMemory>
     ensures { IfOk result (λ bits. bits ≡ value_part whole.now at width) }
 {
     let mut bits = Bits::zero(alloc, width)?;

@@ -1,0 +1,4 @@
+mod Lists
+mod Bits
+mod Limits
+mod Steps
