@@ -1,5 +1,5 @@
 //! A recording that grows.
-ghost use Rattle.std.specs.Prelude.{◌≡◌, [], ◌++◌, if◌then◌else◌, IfOk, is_ok, length};
+ghost use Rattle.std.specs.Prelude.{◌≡◌, ◌+◌, ◌^◌, ◌<◌, [], ◌++◌, if◌then◌else◌, IfOk, is_ok, length};
 ghost use Rattle.std.specs.Arc.{arc_value};
 ghost use Rattle.spool_format.specs.Kept.{with_sample};
 ghost use Rattle.spool_format.specs.Records.{IsNext};
@@ -62,15 +62,13 @@ impl Spool {
         self.count
     }
 
-    /// Records the next sample. Where memory is wanting, the recording is as before. 18446744073709551615 samples are the
-    /// most: one more is want of memory, too.
+    /// Records the next sample. Where memory is wanting, the recording is as before.
     pub fn push(&mut self, alloc: Global, s: &Sample) -> Result<(), NoMemory>
-        requires { IsNext self.old.widths self.old.samples s.now }
+        requires next { IsNext self.old.widths self.old.samples s.now }
+        requires few { length self.old.samples + 1 < 2 ^ 64 }
         ensures { self.new ≡ (if is_ok result then with_sample self.old s.now else self.old) }
     {
-        let Some(count) = self.count.checked_add(1) else {
-            return Err(NoMemory);
-        };
+        let count = self.count + 1;
         let start = self.growing.len();
         write_next(&self.shape, self.count, &self.last, s, &mut self.growing)?;
         let closed = close_full(alloc, count, &mut self.full, &mut self.growing);
@@ -85,7 +83,8 @@ impl Spool {
 
     /// Records the next samples: all of them, or none where memory is wanting.
     pub fn push_all(&mut self, alloc: Global, samples: &[Sample]) -> Result<(), NoMemory>
-        requires { AreNext self.old samples.now }
+        requires next { AreNext self.old samples.now }
+        requires few { length self.old.samples + length samples.now < 2 ^ 64 }
         ensures { self.new ≡ (if is_ok result then record { widths = self.old.widths; samples = self.old.samples ++ samples.now } else self.old) }
     {
         let mut more = self.copy(alloc)?;
