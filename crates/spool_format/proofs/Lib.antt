@@ -9,3 +9,4 @@ pub mod Placed
 pub mod SlotsSet
 pub mod Decoded
 pub mod KeptOn
+pub mod Below

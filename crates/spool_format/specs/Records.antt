@@ -20,11 +20,15 @@ unfoldable pub slot_number : List ℕ → ℕ
 slot_number [] = 0
 slot_number (w ∷ ws) = slot_number ws * 2 ^ 32 + w
 
+-- each of the first n slots shows a number below 2 to its width
+abbrev pub AreBelow : List ℕ → List ℕ → ℕ → Type 0
+AreBelow widths words count = (n : ℕ) → n < count → slot_number (slot_words widths words n) < 2 ^ slice_index widths n
+
 -- a sample of slots of these widths: its time is one, it has the words of all slots, and each shows a number below 2 to its width
 pub record IsSampleOf (widths : List ℕ) (s : Sample) : Type 0 where
   pub time : s.time ≤ largest_time
   pub room : length s.words ≡ words_of_widths widths
-  pub below : (n : ℕ) → n < length widths → slot_number (slot_words widths s.words n) < 2 ^ slice_index widths n
+  pub below : AreBelow widths s.words (length widths)
 
 -- a time: three words of its femtoseconds, the least first
 abbrev pub time_words : ℕ → List ℕ

@@ -5,8 +5,7 @@ mod chunks;
 mod fields;
 mod laws;
 mod sample;
-#[cfg(test)]
-mod tests;
+mod shaped;
 mod view;
 mod write;
 
@@ -18,6 +17,7 @@ pub use laws::{
     law_of_whole_fields, worked_records,
 };
 pub use sample::{Sample, Words};
+pub use shaped::is_sample;
 pub use sim_base::Shape;
 pub use view::SpoolView;
 pub use write::{write_change, write_whole};
