@@ -89,8 +89,12 @@ pub record Records (widths words : List ℕ) (samples : List Sample) : Type 0 wh
   pub numbered : map (λ s. s.number) samples ≡ range_with_len 0 (length samples)
   pub rising : (k : ℕ) → k + 1 < length samples → slice_index (times samples) k < slice_index (times samples) (k + 1)
 
+-- a time later than that of the last sample
+abbrev pub IsLater : List Sample → ℕ → Type 0
+IsLater samples time = (k : ℕ) → k + 1 ≡ length samples → slice_index (times samples) k < time
+
 -- a sample that may come next: it has the next number, and is later than the last one
 pub record IsNext (widths : List ℕ) (samples : List Sample) (s : Sample) : Type 0 where
   pub shaped : IsSampleOf widths s
   pub number : s.number ≡ length samples
-  pub later : (k : ℕ) → k + 1 ≡ length samples → slice_index (times samples) k < s.time
+  pub later : IsLater samples s.time

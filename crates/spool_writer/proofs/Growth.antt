@@ -1,27 +1,28 @@
 -- The chunks keep one sample more.
 use Rattle.std.proofs.Common.{◌≡◌, ℕ, ◌+◌, ◌-◌, ◌%◌, ◌<◌, List, [], ◌∷◌, ◌++◌, length, take, Bool, true, false, cond, eqb, refl, sym, ap, ◌∙◌, subst, inl, inr, arith}
-use Rattle.std.proofs.lemmas.List.{append_assoc, length_push, get_or_push, take_more}
+use Rattle.std.proofs.lemmas.List.{append_assoc, get_or-map, length_push, get_or_push, take_more}
 use Rattle.std.proofs.lemmas.Bool.{cases_lt, eqb-false, ne_eqb}
 use Rattle.sim_base.specs.Shape.{words_of_widths}
 use Rattle.spool_format.specs.declared.sample.Sample.{Sample}
-use Rattle.spool_format.specs.Records.{IsNext, change_record, changed_slots, slots_with_words, time_words, whole_record}
+use Rattle.spool_format.specs.Records.{IsLater, IsNext, change_record, changed_slots, slots_with_words, time_words, whole_record}
 use Rattle.spool_format.specs.Reading.{sample_at}
 use Rattle.spool_format.specs.Kept.{AreChunksOf, Recording, next_record, recording_of, with_sample}
 use Rattle.spool_format.proofs.Decoded.{kept_read}
 use Rattle.spool_format.proofs.KeptOn.{next_full, next_within, nothing_kept, nothing_read}
 use Rattle.spool_writer.specs.Growing.{AreNext, IsGrowing, full_after, growing_after}
 
-pub nothing_grown : (ws : List ℕ) (full : List (List ℕ)) (growing last : List ℕ) → full ≡ [] → growing ≡ [] → length last ≡ words_of_widths ws
-    → IsGrowing (recording_of ws full growing) full growing 0 last
-nothing_grown ws full growing last is_full is_growing room =
-    let none : IsGrowing (recording_of ws [] []) [] [] 0 last = record {
+pub nothing_grown : (ws : List ℕ) (full : List (List ℕ)) (growing last : List ℕ) (time : ℕ) → full ≡ [] → growing ≡ [] → length last ≡ words_of_widths ws
+    → IsGrowing (recording_of ws full growing) full growing 0 last time
+nothing_grown ws full growing last time is_full is_growing room =
+    let none : IsGrowing (recording_of ws [] []) [] [] 0 last time = record {
       kept = nothing_kept ws;
       counted = sym (ap length (nothing_read ws));
       room = room;
       shown = λ h. absurd (omega (arith, ap length (nothing_read ws)));
+      timed = λ h. absurd (omega (arith, ap length (nothing_read ws)));
     } in
-    subst (λ f. IsGrowing (recording_of ws f growing) f growing 0 last) (sym is_full)
-    (subst (λ g. IsGrowing (recording_of ws [] g) [] g 0 last) (sym is_growing) none)
+    subst (λ f. IsGrowing (recording_of ws f growing) f growing 0 last time) (sym is_full)
+    (subst (λ g. IsGrowing (recording_of ws [] g) [] g 0 last time) (sym is_growing) none)
 
 pub nothing_seen : (ws : List ℕ) (full : List (List ℕ)) (growing : List ℕ) → full ≡ [] → growing ≡ []
     → recording_of ws full growing ≡ (let r : Recording = record { widths = ws; samples = [] } in r)
@@ -41,7 +42,7 @@ else_same false w x y h = h refl
 counted_some : (n count : ℕ) → count ≡ n → (count % 256 ≡ 0 → ⊥) → 0 < n
 counted_some n count is apart = elim (cases_lt 0 n) [ inl more ↦ more | inr none ↦ let zero_count : count % 256 ≡ 0 = omega arith in absurd (apart zero_count) ]
 
-next_same : (r : Recording) (full : List (List ℕ)) (growing : List ℕ) (count : ℕ) (last s : Sample) → IsGrowing r full growing count last.words
+next_same : (r : Recording) (full : List (List ℕ)) (growing : List ℕ) (count : ℕ) (last s : Sample) → IsGrowing r full growing count last.words last.time
     → cond (eqb (count % 256) 0) (whole_record s) (change_record r.widths last s) ≡ next_record r s
 next_same r full growing count last s h =
     else_same (eqb (count % 256) 0) (whole_record s) (change_record r.widths last s) (change_record r.widths (sample_at r.samples (length r.samples - 1)) s)
@@ -57,30 +58,31 @@ skip true x y h = cc
 skip false x y h = refl
 
 -- the recording that the chunks then stand for
-abbrev Grows : Recording → Sample → List ℕ → List (List ℕ) → List ℕ → ℕ → List ℕ → Type 0
-Grows r s ws full growing next last = (recording_of ws full growing ≡ with_sample r s) × IsGrowing (recording_of ws full growing) full growing next last
+abbrev Grows : Recording → Sample → List ℕ → List (List ℕ) → List ℕ → ℕ → List ℕ → ℕ → Type 0
+Grows r s ws full growing next last time = (recording_of ws full growing ≡ with_sample r s) × IsGrowing (recording_of ws full growing) full growing next last time
 
-grows : (r : Recording) (s : Sample) (full : List (List ℕ)) (growing : List ℕ) (next : ℕ) (last : List ℕ) → AreChunksOf (with_sample r s) full growing
-    → IsNext r.widths r.samples s → next ≡ length r.samples + 1 → last ≡ s.words → Grows r s r.widths full growing next last
-grows r s full growing next last kept ok is_next is_last =
+grows : (r : Recording) (s : Sample) (full : List (List ℕ)) (growing : List ℕ) (next : ℕ) (last : List ℕ) (time : ℕ) → AreChunksOf (with_sample r s) full growing
+    → IsNext r.widths r.samples s → next ≡ length r.samples + 1 → last ≡ s.words → time ≡ s.time → Grows r s r.widths full growing next last time
+grows r s full growing next last time kept ok is_next is_last is_time =
     let seen = kept_read (with_sample r s) full growing kept in
     let long : length (r.samples ++ s ∷ []) ≡ length r.samples + 1 = length_push r.samples s in
     let end : length (r.samples ++ s ∷ []) - 1 ≡ length r.samples = omega (arith, long) in
     let shown : sample_at (r.samples ++ s ∷ []) (length (r.samples ++ s ∷ []) - 1) ≡ s =
     ap (sample_at (r.samples ++ s ∷ [])) end ∙ get_or_push r.samples s _ (length r.samples) refl in
-    let grown : IsGrowing (with_sample r s) full growing next last = record {
+    let grown : IsGrowing (with_sample r s) full growing next last time = record {
       kept = kept;
       counted = is_next ∙ sym long;
       room = ap length is_last ∙ ok.shaped.room;
       shown = λ _. is_last ∙ ap (λ t. t.words) (sym shown);
-    } in (seen, subst (λ v. IsGrowing v full growing next last) (sym seen) grown)
+      timed = λ _. is_time ∙ ap (λ t. t.time) (sym shown);
+    } in (seen, subst (λ v. IsGrowing v full growing next last time) (sym seen) grown)
 
-pub pushed : (ws : List ℕ) (full : List (List ℕ)) (growing : List ℕ) (count next : ℕ) (last s : Sample) (written : List ℕ) (full2 : List (List ℕ)) (growing2 last2 : List ℕ)
-    → IsGrowing (recording_of ws full growing) full growing count last.words → IsNext ws (recording_of ws full growing).samples s → next ≡ count + 1
+pub pushed : (ws : List ℕ) (full : List (List ℕ)) (growing : List ℕ) (count next : ℕ) (last s : Sample) (written : List ℕ) (full2 : List (List ℕ)) (growing2 last2 : List ℕ) (time2 : ℕ)
+    → IsGrowing (recording_of ws full growing) full growing count last.words last.time → IsNext ws (recording_of ws full growing).samples s → next ≡ count + 1
     → written ≡ growing ++ cond (eqb (count % 256) 0) (whole_record s) (change_record ws last s)
-    → full2 ≡ full_after next full written → growing2 ≡ growing_after next written → last2 ≡ s.words
-    → Grows (recording_of ws full growing) s ws full2 growing2 next last2
-pushed ws full growing count next last s written full2 growing2 last2 h ok is_next is_written is_full is_growing is_last =
+    → full2 ≡ full_after next full written → growing2 ≡ growing_after next written → last2 ≡ s.words → time2 ≡ s.time
+    → Grows (recording_of ws full growing) s ws full2 growing2 next last2 time2
+pushed ws full growing count next last s written full2 growing2 last2 time2 h ok is_next is_written is_full is_growing is_last is_time =
     let r = recording_of ws full growing in
     let text : written ≡ growing ++ next_record r s = is_written ∙ ap (λ w. growing ++ w) (next_same r full growing count last s h) in
     let number : next ≡ length r.samples + 1 = omega (arith, h.counted) in
@@ -90,9 +92,9 @@ pushed ws full growing count next last s written full2 growing2 last2 h ok is_ne
           let same_full : full2 ≡ full = is_full ∙ skip (eqb (next % 256) 0) (full ++ written ∷ []) full test in
           let same_growing : growing2 ≡ growing ++ next_record r s = is_growing ∙ skip (eqb (next % 256) 0) [] written test ∙ text in
           let kept = next_within r full growing s h.kept ok (λ e. absurd (omega (arith, number))) in
-          grows r s full2 growing2 next last2
+          grows r s full2 growing2 next last2 time2
           (subst (λ f. AreChunksOf (with_sample r s) f growing2) (sym same_full) (subst (λ g. AreChunksOf (with_sample r s) full g) (sym same_growing) kept))
-          ok number is_last
+          ok number is_last is_time
       | inr none ↦
           let zero_left : next % 256 ≡ 0 = omega arith in
           let test : eqb (next % 256) 0 ≡ true = ap (λ k. eqb k 0) zero_left in
@@ -100,10 +102,10 @@ pushed ws full growing count next last s written full2 growing2 last2 h ok is_ne
           is_full ∙ pick (eqb (next % 256) 0) (full ++ written ∷ []) full test ∙ ap (λ w. full ++ w ∷ []) text in
           let no_growing : growing2 ≡ [] = is_growing ∙ pick (eqb (next % 256) 0) [] written test in
           let kept = next_full r full growing s h.kept ok (omega (arith, number)) in
-          grows r s full2 growing2 next last2
+          grows r s full2 growing2 next last2 time2
           (subst (λ f. AreChunksOf (with_sample r s) f growing2) (sym more_full)
           (subst (λ g. AreChunksOf (with_sample r s) (full ++ (growing ++ next_record r s) ∷ []) g) (sym no_growing) kept))
-          ok number is_last
+          ok number is_last is_time
     ]
 
 -- ---- samples one after another
@@ -117,3 +119,20 @@ pub one_more : (r : Recording) (samples : List Sample) (k : ℕ) → k < length 
     → (r.samples ++ take k samples) ++ sample_at samples k ∷ [] ≡ r.samples ++ take (k + 1) samples
 one_more r samples k within =
     append_assoc r.samples (take k samples) (sample_at samples k ∷ []) ∙ ap (λ xs. r.samples ++ xs) (sym (take_more samples k _ within))
+
+-- ---- a time later than the last sample's
+
+counted_more : (n count : ℕ) → count ≡ n → (count ≡ 0 → ⊥) → 0 < n
+counted_more n count is apart = elim (cases_lt 0 n) [ inl more ↦ more | inr none ↦ let zero_count : count ≡ 0 = omega arith in absurd (apart zero_count) ]
+
+pub later_kept : (r : Recording) (full : List (List ℕ)) (growing : List ℕ) (count : ℕ) (last : Sample) (time : ℕ)
+    → IsGrowing r full growing count last.words last.time → (count ≡ 0 → ⊥) → IsLater r.samples time → last.time < time
+later_kept r full growing count last time h some later =
+    let n = length r.samples in
+    let more : 0 < n = counted_more n count h.counted some in
+    let end : n - 1 + 1 ≡ n = omega arith in
+    let within : n - 1 < n = omega arith in
+    let shown = get_or-map (λ (s : Sample). s.time) r.samples (n - 1) (record { number = 0; time = 0; words = [] }) 0 within in
+    let before = later (n - 1) end in
+    let kept = h.timed more in
+    omega (arith, shown, before, kept)

@@ -13,12 +13,13 @@ full_after count full growing = if count % 256 == 0 then full ++ growing ∷ [] 
 abbrev pub growing_after : ℕ → List ℕ → List ℕ
 growing_after count growing = if count % 256 == 0 then [] else growing
 
--- what a spool keeps: the chunks, their number of samples, and the words of the last sample
-pub record IsGrowing (r : Recording) (full : List (List ℕ)) (growing : List ℕ) (count : ℕ) (last : List ℕ) : Type 0 where
+-- what a spool keeps: the chunks, their number of samples, and the words and the time of the last sample
+pub record IsGrowing (r : Recording) (full : List (List ℕ)) (growing : List ℕ) (count : ℕ) (last : List ℕ) (time : ℕ) : Type 0 where
   pub kept : AreChunksOf r full growing
   pub counted : count ≡ length r.samples
   pub room : length last ≡ words_of_widths r.widths
   pub shown : 0 < length r.samples → last ≡ (sample_at r.samples (length r.samples - 1)).words
+  pub timed : 0 < length r.samples → time ≡ (sample_at r.samples (length r.samples - 1)).time
 
 -- samples that may come next, one after another
 abbrev pub AreNext : Recording → List Sample → Type 0

@@ -49,10 +49,12 @@ pub fn close_full(
     Ok(())
 }
 
-/// Keeps the words of a sample, which the next one is compared with.
+/// Keeps the words and the time of a sample, which the next one is compared with.
 pub fn keep_last(last: &mut Sample, s: &Sample)
     requires { length s.now.words ≡ length last.old.words }
-    ensures { last.new.words ≡ s.now.words }
+    ensures words { last.new.words ≡ s.now.words }
+    ensures time { last.new.time ≡ s.now.time }
 {
+    last.time = s.time;
     last.words.copy_from(s.words.as_slice());
 }

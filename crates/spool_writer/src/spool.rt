@@ -1,13 +1,13 @@
 //! A recording that grows.
-ghost use Rattle.std.specs.Prelude.{◌≡◌, ◌+◌, ◌^◌, ◌<◌, [], ◌++◌, if◌then◌else◌, IfOk, is_ok, length};
+ghost use Rattle.std.specs.Prelude.{◌≡◌, ◌+◌, ◌^◌, ◌<◌, [], ◌++◌, true, if◌then◌else◌, IfOk, is_ok, length};
 ghost use Rattle.std.specs.Arc.{arc_value};
 ghost use Rattle.spool_format.specs.Kept.{with_sample};
-ghost use Rattle.spool_format.specs.Records.{IsNext};
+ghost use Rattle.spool_format.specs.Records.{IsLater, IsNext};
 ghost use Rattle.spool_writer.specs.Growing.{AreNext};
 
 use crate::grow::{close_full, keep_last, write_next};
 use sim_base::{NoMemory, Time};
-use spool_format::{Chunks, Sample, Shape, SpoolView, Words};
+use spool_format::{Chunks, Sample, Shape, SpoolView, Words, is_sample};
 use std::alloc::Global;
 use std::marker::Model;
 use std::sync::Arc;
@@ -32,7 +32,7 @@ impl Model for Spool {
 
     ghost view = { λ s. recording_of (arc_value s.shape) s.full s.growing.items };
 
-    ghost invariant = { λ s. IsGrowing (recording_of (arc_value s.shape) s.full s.growing.items) s.full s.growing.items s.count s.last.words };
+    ghost invariant = { λ s. IsGrowing (recording_of (arc_value s.shape) s.full s.growing.items) s.full s.growing.items s.count s.last.words s.last.time };
 }
 
 impl Spool {
@@ -60,6 +60,22 @@ impl Spool {
         ensures { result ≡ length self.now.samples }
     {
         self.count
+    }
+
+    /// Whether a sample may come next: it has the next number, a later time than the last one, and the words of all slots.
+    pub fn is_next(&self, s: &Sample) -> bool
+        ensures yes { result ≡ true → IsNext self.now.widths self.now.samples s.now }
+        ensures no { IsNext self.now.widths self.now.samples s.now → result ≡ true }
+    {
+        s.number == self.count && self.is_later(s.time) && is_sample(&self.shape, s)
+    }
+
+    /// Whether a time is later than that of the last sample.
+    fn is_later(&self, time: Time) -> bool
+        ensures yes { result ≡ true → IsLater self.now.samples time }
+        ensures no { IsLater self.now.samples time → result ≡ true }
+    {
+        self.count == 0 || self.last.time.femtoseconds() < time.femtoseconds()
     }
 
     /// Records the next sample. Where memory is wanting, the recording is as before.

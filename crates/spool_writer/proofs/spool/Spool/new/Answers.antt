@@ -8,7 +8,7 @@ pub invariant_of-result : goal.invariant_of-result
 invariant_of-result c =
     let room : length c.new-words.result ≡ words_of_widths (arc_value c.args.shape) =
     omega (arith, ap length c.new-words.ensures, ap words_of_widths c.deref.ensures, c.words.ensures.value, c.in_ok-vec.ensures.len) in
-    nothing_grown (arc_value c.args.shape) c.new.result c.new-2.result.items c.new-words.result c.new.ensures c.new-2.ensures.items room
+    nothing_grown (arc_value c.args.shape) c.new.result c.new-2.result.items c.new-words.result c.zero.result c.new.ensures c.new-2.ensures.items room
 
 pub returns : goal.returns
 returns c = nothing_seen (arc_value c.args.shape) c.new.result c.new-2.result.items c.new.ensures c.new-2.ensures.items

@@ -18,9 +18,9 @@ invariant_of-self-2 c =
     c.in_ok-write_next.ensures ∙ ap (λ w. c.self.inside.growing.items ++ cond (eqb (c.self.inside.count % 256) 0) (whole_record c.args.s.now) (change_record w c.self.inside.last c.args.s.now)) c.deref.ensures in
     let full : c.close_full-closed.new.full ≡ full_after (c.self.inside.count + 1) c.self.inside.full c.write_next.new.growing.items = rw closed at c.close_full-closed.ensures.full in
     let growing : c.close_full-closed.new.growing.items ≡ growing_after (c.self.inside.count + 1) c.write_next.new.growing.items = rw closed at c.close_full-closed.ensures.growing in
-    let last : c.keep_last.new.last.words ≡ c.args.s.now.words = c.keep_last.ensures in
+    let last : c.keep_last.new.last.words ≡ c.args.s.now.words = c.keep_last.ensures.words in
     (pushed ws c.self.inside.full c.self.inside.growing.items c.self.inside.count (c.self.inside.count + 1) c.self.inside.last c.args.s.now c.write_next.new.growing.items
-    c.close_full-closed.new.full c.close_full-closed.new.growing.items c.keep_last.new.last.words c.self.invariant ok refl written full growing last).1
+    c.close_full-closed.new.full c.close_full-closed.new.growing.items c.keep_last.new.last.words c.keep_last.new.last.time c.self.invariant ok refl written full growing last c.keep_last.ensures.time).1
 
 pub returns : goal.returns
 returns c =
@@ -32,7 +32,7 @@ returns c =
     c.in_ok-write_next.ensures ∙ ap (λ w. c.self.inside.growing.items ++ cond (eqb (c.self.inside.count % 256) 0) (whole_record c.args.s.now) (change_record w c.self.inside.last c.args.s.now)) c.deref.ensures in
     let full : c.close_full-closed.new.full ≡ full_after (c.self.inside.count + 1) c.self.inside.full c.write_next.new.growing.items = rw closed at c.close_full-closed.ensures.full in
     let growing : c.close_full-closed.new.growing.items ≡ growing_after (c.self.inside.count + 1) c.write_next.new.growing.items = rw closed at c.close_full-closed.ensures.growing in
-    let last : c.keep_last.new.last.words ≡ c.args.s.now.words = c.keep_last.ensures in
+    let last : c.keep_last.new.last.words ≡ c.args.s.now.words = c.keep_last.ensures.words in
     (pushed ws c.self.inside.full c.self.inside.growing.items c.self.inside.count (c.self.inside.count + 1) c.self.inside.last c.args.s.now c.write_next.new.growing.items
-    c.close_full-closed.new.full c.close_full-closed.new.growing.items c.keep_last.new.last.words c.self.invariant ok refl written full growing last).0
+    c.close_full-closed.new.full c.close_full-closed.new.growing.items c.keep_last.new.last.words c.keep_last.new.last.time c.self.invariant ok refl written full growing last c.keep_last.ensures.time).0
     ∙ ap (λ v. with_sample v c.args.s.now) c.self.view_is
