@@ -5,7 +5,7 @@ ghost use Rattle.rtlil_signals.specs.Drives.{by_at, connected, driven_from};
 ghost use Rattle.rtlil_signals.specs.Spans.{pieces_of};
 ghost use Rattle.circuit.specs.Signal.{sig_width};
 
-use circuit::{Cell, Circuit, Diag, Item, Mem, Net, Reg, Scope};
+use circuit::{Cell, Circuit, Diag, Drive, Item, Mem, Net, Reg, Scope};
 use rtlil_signals::{Source, Span, connect, drive};
 use sim_base::NoMemory;
 use sqlite_items::Items;
@@ -224,6 +224,14 @@ impl Draft {
         ensures { OnOk result (self.new ≡ (record self.old { items = self.old.items ++ item ∷ [] })) }
     {
         self.circuit.items.push(item)?;
+        Ok(())
+    }
+
+    /// Appends a drive.
+    pub fn push_drive(&mut self, drive: Drive) -> Result<(), NoMemory>
+        ensures { OnOk result (self.new ≡ (record self.old { drives = self.old.drives ++ drive ∷ [] })) }
+    {
+        self.circuit.drives.push(drive)?;
         Ok(())
     }
 

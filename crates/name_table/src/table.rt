@@ -1,5 +1,5 @@
 //! Names and what they stand for.
-ghost use Rattle.std.specs.Prelude.{◌≡◌, ◌++◌, ◌∷◌, [], IfOk, OnErr, bytes_eq, if◌then◌else◌, length, not};
+ghost use Rattle.std.specs.Prelude.{◌≡◌, ◌<◌, ◌++◌, ◌∷◌, [], IfOk, OnErr, bytes_eq, if◌then◌else◌, length, not, Some, slice_get};
 ghost use Rattle.std.specs.Map.{lookup};
 ghost use Rattle.std.specs.Option.{is_some};
 
@@ -37,6 +37,24 @@ impl<'t, V: Copy + Drop> Table<'t, V> {
         ensures { result ≡ lookup (bytes_eq name.now) self.now }
     {
         self.entries.get(name).copied()
+    }
+
+    /// How many names there are.
+    pub fn len(&self) -> usize
+        ensures { result ≡ length self.now }
+    {
+        self.entries.len()
+    }
+
+    /// The name at a place and what it stands for.
+    pub fn entry(&self, at: usize) -> (&'t [u8], V)
+        requires { at < length self.now }
+        ensures { slice_get self.now at ≡ Some (result.0.now, result.1) }
+    {
+        match self.entries.get_index(at) {
+            Some((name, value)) => (*name, *value),
+            None => unreachable!(),
+        }
     }
 
     /// Adds a name behind the others, unless it is there, and answers whether it was not.
