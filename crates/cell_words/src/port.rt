@@ -2,7 +2,6 @@
 ghost use Rattle.std.specs.Prelude.{◌≡◌, ◌<◌, ◌≤◌, ◌^◌};
 ghost use Rattle.circuit.specs.Signal.{sig_number, sig_width};
 ghost use Rattle.signal_words.specs.Values.{digits_in, AreInside};
-ghost use Rattle.cell_words.specs.Shifts.{is_below_zero};
 
 use circuit::{Piece, sig_width};
 use signal_words::{SigReader, SigWord, sig_word};
@@ -27,15 +26,6 @@ impl Port {
             width: word.width,
             number: u128::from(word.number),
         }
-    }
-
-    /// Whether it stands for a number below 0, in two's complement where signed.
-    pub fn is_below_zero(self, signed: bool) -> bool
-        requires narrow { self.width ≤ 128 }
-        requires below { self.number < 2 ^ self.width }
-        ensures { result ≡ is_below_zero signed self.width self.number }
-    {
-        signed && self.width > 0 && (self.number >> (self.width - 1)) & 1 == 1
     }
 }
 

@@ -53,8 +53,8 @@ fn shifted_number(cell: &Cell, nets: &Values, a: SigWord) -> u128
     ensures value { result ≡ output (digits_in nets.now) cell.now }
     ensures below { result < 2 ^ cell.now.width }
 {
+    let negative = is_word_below_zero(a, cell.a_signed);
     let a = Port::of(a);
-    let negative = a.is_below_zero(cell.a_signed);
     let amount = amount_of(cell.b.as_slice(), nets, is_amount_signed(cell));
     let shift = shift_of(cell, a.width, negative, amount);
     moved_word(shift, a, cell.width)
