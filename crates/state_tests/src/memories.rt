@@ -4,88 +4,13 @@ ghost use Rattle.circuit.specs.Valid.{is_valid};
 ghost use Rattle.signal_words.specs.Stores.{IsStoreOf};
 ghost use Rattle.sim_base.specs.Values.{widths};
 
-use crate::parts::{circuit_of, flags, part, put, put_bit, set_every, store_of, value};
-use circuit::{Circuit, Mem, ReadPort, Store, WritePort};
+use crate::parts::{bits_of, store_of};
+use circuit::{Circuit, Mem, Store};
 use memory_cells::{Rows, clock_ports, law_of_memories, read_port};
 use sim_base::Bits;
-use sqlite_items::Items;
 use std::alloc::{AllocGlobal, Global};
 use std::process::Abort;
-
-/// The nets: a clock, for each of two write ports its address, its enable and its word, and the enable of the read
-/// ports.
-const WIDTHS: [u32; 8] = [1, 70, 8, 8, 70, 8, 8, 1];
-
-/// A write port whose address, enable and word are nets in turn, of these widths.
-fn write_port<R: AllocGlobal + Abort>(
-    rt: &R,
-    nets: [u32; 3],
-    rising: bool,
-    abits: u32,
-    width: u32,
-) -> WritePort {
-    WritePort {
-        rising,
-        clk: part(rt, 0, 1),
-        en: part(rt, nets[1], width),
-        addr: part(rt, nets[0], abits),
-        word: part(rt, nets[2], width),
-    }
-}
-
-/// A read port with the address of the first write port.
-fn read_port_of<R: AllocGlobal + Abort>(
-    rt: &R,
-    clocked: bool,
-    rising: bool,
-    see: [bool; 2],
-    abits: u32,
-) -> ReadPort {
-    ReadPort {
-        clocked,
-        rising,
-        clk: part(rt, 0, 1),
-        en: part(rt, 7, 1),
-        addr: part(rt, 1, abits),
-        see: flags(rt, &see),
-        init: value(rt, 8, 0),
-    }
-}
-
-/// A memory without ports.
-fn bare_memory<R: AllocGlobal + Abort>(rt: &R, width: u32, size: u32, init: Bits) -> Mem {
-    Mem {
-        width,
-        size,
-        offset: 0,
-        init,
-        reads: Items::new(rt.alloc()),
-        writes: Items::new(rt.alloc()),
-    }
-}
-
-/// Four rows 11, 22, 33 and 44 of 8 bits, with two write ports, and three read ports with a clock, of which the first
-/// sees the first write port, the second sees both, and the third none; and one without a clock.
-fn four_rows<R: AllocGlobal + Abort>(rt: &R, rising: bool, offset: u32, abits: u32) -> Circuit {
-    let init = value(rt, 32, 0x4433_2211);
-    let mut memory = bare_memory(rt, 8, 4, init);
-    memory.offset = offset;
-    let one = read_port_of(rt, true, rising, [true, false], abits);
-    put(rt, &mut memory.reads, one);
-    let both = read_port_of(rt, true, rising, [true, true], abits);
-    put(rt, &mut memory.reads, both);
-    let none = read_port_of(rt, true, rising, [false, false], abits);
-    put(rt, &mut memory.reads, none);
-    let shown = read_port_of(rt, false, rising, [true, true], abits);
-    put(rt, &mut memory.reads, shown);
-    let first = write_port(rt, [1, 2, 3], rising, abits, 8);
-    put(rt, &mut memory.writes, first);
-    let second = write_port(rt, [4, 5, 6], rising, abits, 8);
-    put(rt, &mut memory.writes, second);
-    let mut circuit = circuit_of(rt, &WIDTHS);
-    put(rt, &mut circuit.mems, memory);
-    circuit
-}
+use test_circuits::{Line, circuit_of};
 
 /// Whether these are as many values as the memory has read ports, of its width.
 fn are_outs(mem: &Mem, outs: &[Bits]) -> bool
@@ -153,47 +78,6 @@ fn start(alloc: Global, circuit: &Circuit) -> Option<Rows>
     }
 }
 
-/// Whether a clock is 1 in the round before and in this one.
-type Clock = (bool, bool);
-
-const LOW: Clock = (false, false);
-
-const UP: Clock = (false, true);
-
-const HIGH: Clock = (true, true);
-
-const DOWN: Clock = (true, false);
-
-/// The address, the enable and the word of a write port.
-type Port = (u64, u64, u64);
-
-const NONE: Port = (0, 0, 0);
-
-/// The clock, the write ports, the read ports' enable, and then the values of the four read ports, which were 5a
-/// before, and the four rows, the first in the lowest byte.
-type Row = (Clock, Port, Port, bool, u64, u64);
-
-/// The store of this round; with a `high` address its bit 69 is 1.
-fn store_now<R: AllocGlobal + Abort>(rt: &R, circuit: &Circuit, row: Row, high: bool) -> Store
-    requires { is_valid circuit.now ≡ true }
-    ensures { IsStoreOf circuit.now result }
-{
-    let (clock, one, other, enabled, _, _) = row;
-    let numbers = [
-        u64::from(clock.1),
-        one.0,
-        one.1,
-        one.2,
-        other.0,
-        other.1,
-        other.2,
-        u64::from(enabled),
-    ];
-    let mut now = store_of(rt, circuit, &numbers);
-    put_bit(&mut now, 1, 69, high);
-    now
-}
-
 /// Checks the bytes of four values, the first lowest.
 fn check_bytes(rt: &impl Abort, values: &[Bits], wanted: u64) {
     assert!(rt; values.len() == 4);
@@ -207,184 +91,154 @@ fn check_bytes(rt: &impl Abort, values: &[Bits], wanted: u64) {
 fn rows_of<R: AllocGlobal + Abort>(rt: &R, rows: &Rows) -> Vec<Bits> {
     let mut all = Vec::new(rt.alloc());
     for i in 0..4u32 {
-        let mut row = value(rt, 8, 0);
-        assert!(rt; rows.width() == 8 && i < rows.len());
+        let mut row = bits_of(rt, "8'0");
+        assert!(rt; rows.width() == 8 && row.width() == 8 && i < rows.len());
         rows.row(i, &mut row);
         all.push(row).expect(rt, "memory");
     }
     all
 }
 
-/// Checks a row, and what the port without a clock shows of the rows before the round.
+/// What is wanted of a row: the four values of the read ports, which were 5a before, the four rows, the first in the
+/// lowest byte, and what the port without a clock shows of the rows before the round, or none.
+#[derive(Drop)]
+struct Wanted {
+    outs: u64,
+    after: u64,
+    shown: Option<u64>,
+}
+
+fn wanted_of(line: &mut Line) -> Option<Wanted> {
+    Some(Wanted {
+        outs: line.hexadecimal()?,
+        after: line.hexadecimal()?,
+        shown: line.hexadecimal(),
+    })
+}
+
 fn check_row<R: AllocGlobal + Abort>(
     rt: &R,
     circuit: &Circuit,
-    row: Row,
-    high: bool,
-    at_once: Option<u64>,
+    stores: [&str; 2],
+    wanted: &Wanted,
 ) {
     assert!(rt; circuit.validate());
-    let before = store_of(rt, circuit, &[u64::from(row.0.0)]);
-    let now = store_now(rt, circuit, row, high);
+    let before = store_of(rt, circuit, stores[0]);
+    let now = store_of(rt, circuit, stores[1]);
     let mut rows = start(rt.alloc(), circuit).expect(rt, "rows");
-    if let Some(wanted) = at_once {
-        let mut into = value(rt, 8, 0x5A);
-        assert!(rt; shown(circuit, 3, &rows, &now, &mut into) == Some(wanted));
-    }
+    let mut into = bits_of(rt, "8'5a");
+    let at_once = shown(circuit, 3, &rows, &now, &mut into);
+    assert!(rt; wanted.shown.is_none() || at_once == wanted.shown);
     let mut outs = [
-        value(rt, 8, 0x5A),
-        value(rt, 8, 0x5A),
-        value(rt, 8, 0x5A),
-        value(rt, 8, 0x5A),
+        bits_of(rt, "8'5a"),
+        bits_of(rt, "8'5a"),
+        bits_of(rt, "8'5a"),
+        bits_of(rt, "8'5a"),
     ];
     let changed = clock(circuit, &mut rows, &before, &now, &mut outs);
-    check_bytes(rt, &outs, row.4);
-    check_bytes(rt, rows_of(rt, &rows).as_slice(), row.5);
-    assert!(rt; changed == Some(row.4 != 0x5A5A_5A5A || row.5 != 0x4433_2211));
+    check_bytes(rt, &outs, wanted.outs);
+    check_bytes(rt, rows_of(rt, &rows).as_slice(), wanted.after);
+    let changes = wanted.outs != 0x5A5A_5A5A || wanted.after != 0x4433_2211;
+    assert!(rt; changed == Some(changes));
 }
 
-/// Each row at a memory that begins at address 0.
-fn check_rows<R: AllocGlobal + Abort>(rt: &R, rising: bool, rows: &[Row]) {
-    let circuit = four_rows(rt, rising, 0, 8);
-    for row in rows {
-        check_row(rt, &circuit, *row, false, None);
+/// Four rows 11, 22, 33 and 44 of 8 bits, with two write ports, and three read ports with a clock, of which the first
+/// sees the first write port, the second sees both, and the third none; and one without a clock. The nets are a clock,
+/// for each write port its address, its enable and its word, and the enable of the read ports.
+fn four_rows<R: AllocGlobal + Abort>(rt: &R, rising: &str, offset: u32, a: u32) -> Circuit {
+    let nets = "scope - -;net - 1;net - 70;net - 8;net - 8;net - 70;net - 8;net - 8;net - 1";
+    let text = format!(in rt.alloc();
+        "{nets}
+mem 8 4 {offset} 32'44332211
+read 1 {rising} 10 8'0 0[0+:1] 7[0+:1] 1[0+:{a}]
+read 1 {rising} 11 8'0 0[0+:1] 7[0+:1] 1[0+:{a}]
+read 1 {rising} 00 8'0 0[0+:1] 7[0+:1] 1[0+:{a}]
+read 0 {rising} 11 8'0 0[0+:1] 7[0+:1] 1[0+:{a}]
+write {rising} 0[0+:1] 2[0+:8] 1[0+:{a}] 3[0+:8]
+write {rising} 0[0+:1] 5[0+:8] 4[0+:{a}] 6[0+:8]"
+    );
+    let text = text.expect(rt, "memory");
+    circuit_of(rt.alloc(), text.as_str()).expect(rt, "a circuit")
+}
+
+/// Checks rows of what the nets have in the round before and in this one, and what is wanted.
+fn check_rows<R: AllocGlobal + Abort>(rt: &R, circuit: &Circuit, rows: &str) {
+    for row in rows.lines() {
+        let (was, rest) = row.split_once('|').expect(rt, "a row");
+        let (is, wanted) = rest.split_once('|').expect(rt, "a row");
+        let wanted = wanted_of(&mut Line::new(rt.alloc(), wanted));
+        let wanted = wanted.expect(rt, "numbers");
+        check_row(rt, circuit, [was, is], &wanted);
     }
 }
+
+/// One port writes, and of two the highest.
+const UP: &str = "1'0|1'1 70'2 8'ff 8'a5 70'0 8'0 8'0 1'1|5a33a5a5 44a52211 -
+1'0|1'1 70'2 8'f 8'a5 70'0 8'0 8'0 1'1|5a333535 44352211 -
+1'0|1'1 70'2 8'ff 8'a5 70'0 8'0 8'0 1'0|5a5a5a5a 44a52211 -
+1'0|1'1 70'2 8'0 8'a5 70'0 8'0 8'0 1'1|5a333333 44332211 -
+1'0|1'1 70'2 8'ff 8'33 70'0 8'0 8'0 1'0|5a5a5a5a 44332211 -
+1'1|1'1 70'2 8'ff 8'a5 70'0 8'0 8'0 1'1|5a5a5a5a 44332211 -
+1'0|1'0 70'2 8'ff 8'a5 70'0 8'0 8'0 1'1|5a5a5a5a 44332211 -
+1'1|1'0 70'2 8'ff 8'a5 70'0 8'0 8'0 1'1|5a5a5a5a 44332211 -
+1'0|1'1 70'2 8'ff 8'ff 70'2 8'ff 8'0 1'1|5a3300ff 44002211 -
+1'0|1'1 70'2 8'ff 8'ff 70'2 8'f 8'0 1'1|5a33f0ff 44f02211 -
+1'0|1'1 70'2 8'f 8'a 70'2 8'f0 8'50 1'1|5a335a3a 445a2211 -
+1'0|1'1 70'0 8'ff 8'aa 70'3 8'ff 8'bb 1'1|5a11aaaa bb3322aa -
+1'0|1'1 70'1 8'0 8'aa 70'1 8'ff 8'bb 1'1|5a22bb22 4433bb11 -
+1'0|1'1 70'2 8'ff 8'ff 70'2 8'ff 8'33 1'0|5a5a5a5a 44332211 -
+1'0|1'1 70'2 8'ff 8'ff 70'3 8'ff 8'44 1'0|5a5a5a5a 44ff2211 -";
+
+const DOWN: &str = "1'1|1'0 70'2 8'ff 8'a5 70'0 8'0 8'0 1'1|5a33a5a5 44a52211 -
+1'0|1'1 70'2 8'ff 8'a5 70'0 8'0 8'0 1'1|5a5a5a5a 44332211 -";
+
+/// A memory that begins at address 4 and has addresses of 70 bits.
+const OUTSIDE: &str = "1'0|1'1 70'3 8'ff 8'a5 70'0 8'0 8'0 1'1|5a000000 44332211 00
+1'0|1'1 70'4 8'ff 8'a5 70'0 8'0 8'0 1'1|5a11a5a5 443322a5 11
+1'0|1'1 70'7 8'ff 8'a5 70'0 8'0 8'0 1'1|5a44a5a5 a5332211 44
+1'0|1'1 70'8 8'ff 8'a5 70'0 8'0 8'0 1'1|5a000000 44332211 00
+1'0|1'1 70'0 8'ff 8'a5 70'0 8'0 8'0 1'1|5a000000 44332211 00
+1'0|1'1 70'2.0*16.4 8'ff 8'a5 70'0 8'0 8'0 1'1|5a000000 44332211 00";
 
 #[test]
 fn rows_are_read_and_written_at_once(rt: HostRuntime) {
-    let up = [
-        (UP, (2, 0xFF, 0xA5), NONE, true, 0x5A33_A5A5, 0x44A5_2211),
-        (UP, (2, 0x0F, 0xA5), NONE, true, 0x5A33_3535, 0x4435_2211),
-        (UP, (2, 0xFF, 0xA5), NONE, false, 0x5A5A_5A5A, 0x44A5_2211),
-        (UP, (2, 0x00, 0xA5), NONE, true, 0x5A33_3333, 0x4433_2211),
-        (UP, (2, 0xFF, 0x33), NONE, false, 0x5A5A_5A5A, 0x4433_2211),
-        (HIGH, (2, 0xFF, 0xA5), NONE, true, 0x5A5A_5A5A, 0x4433_2211),
-        (LOW, (2, 0xFF, 0xA5), NONE, true, 0x5A5A_5A5A, 0x4433_2211),
-        (DOWN, (2, 0xFF, 0xA5), NONE, true, 0x5A5A_5A5A, 0x4433_2211),
-    ];
-    check_rows(&rt, true, &up);
-    let down = [
-        (DOWN, (2, 0xFF, 0xA5), NONE, true, 0x5A33_A5A5, 0x44A5_2211),
-        (UP, (2, 0xFF, 0xA5), NONE, true, 0x5A5A_5A5A, 0x4433_2211),
-    ];
-    check_rows(&rt, false, &down);
-}
-
-#[test]
-fn the_highest_of_two_ports_writes(rt: HostRuntime) {
-    let rows: [(Port, Port, bool, u64, u64); 7] = [
-        (
-            (2, 0xFF, 0xFF),
-            (2, 0xFF, 0x00),
-            true,
-            0x5A33_00FF,
-            0x4400_2211,
-        ),
-        (
-            (2, 0xFF, 0xFF),
-            (2, 0x0F, 0x00),
-            true,
-            0x5A33_F0FF,
-            0x44F0_2211,
-        ),
-        (
-            (2, 0x0F, 0x0A),
-            (2, 0xF0, 0x50),
-            true,
-            0x5A33_5A3A,
-            0x445A_2211,
-        ),
-        (
-            (0, 0xFF, 0xAA),
-            (3, 0xFF, 0xBB),
-            true,
-            0x5A11_AAAA,
-            0xBB33_22AA,
-        ),
-        (
-            (1, 0x00, 0xAA),
-            (1, 0xFF, 0xBB),
-            true,
-            0x5A22_BB22,
-            0x4433_BB11,
-        ),
-        (
-            (2, 0xFF, 0xFF),
-            (2, 0xFF, 0x33),
-            false,
-            0x5A5A_5A5A,
-            0x4433_2211,
-        ),
-        (
-            (2, 0xFF, 0xFF),
-            (3, 0xFF, 0x44),
-            false,
-            0x5A5A_5A5A,
-            0x44FF_2211,
-        ),
-    ];
-    for (one, other, enabled, outs, after) in rows {
-        check_rows(&rt, true, &[(UP, one, other, enabled, outs, after)]);
-    }
-}
-
-/// A memory that begins at address 4 and has addresses of 70 bits: the address, the values of the ports, the rows, and
-/// what the port without a clock shows.
-#[test]
-fn addresses_outside_read_zero_and_write_nothing(rt: HostRuntime) {
-    let rows: [(u64, bool, u64, u64, u64); 6] = [
-        (3, false, 0x5A00_0000, 0x4433_2211, 0x00),
-        (4, false, 0x5A11_A5A5, 0x4433_22A5, 0x11),
-        (7, false, 0x5A44_A5A5, 0xA533_2211, 0x44),
-        (8, false, 0x5A00_0000, 0x4433_2211, 0x00),
-        (0, false, 0x5A00_0000, 0x4433_2211, 0x00),
-        (4, true, 0x5A00_0000, 0x4433_2211, 0x00),
-    ];
-    let circuit = four_rows(&rt, true, 4, 70);
-    for (address, high, outs, after, at_once) in rows {
-        let row = (UP, (address, 0xFF, 0xA5), NONE, true, outs, after);
-        check_row(&rt, &circuit, row, high, Some(at_once));
-    }
+    check_rows(&rt, &four_rows(&rt, "1", 0, 8), UP);
+    check_rows(&rt, &four_rows(&rt, "0", 0, 8), DOWN);
+    check_rows(&rt, &four_rows(&rt, "1", 4, 70), OUTSIDE);
 }
 
 /// Three rows of 130 bits, with a write port and no read port.
-fn wide_rows<R: AllocGlobal + Abort>(rt: &R) -> Circuit {
-    let mut memory = bare_memory(rt, 130, 3, value(rt, 390, 0));
-    let port = write_port(rt, [1, 2, 3], true, 2, 130);
-    put(rt, &mut memory.writes, port);
-    let mut circuit = circuit_of(rt, &[1, 2, 130, 130]);
-    put(rt, &mut circuit.mems, memory);
-    circuit
-}
+const WIDE_ROWS: &str = "scope - -
+net - 1
+net - 2
+net - 130
+net - 130
+mem 130 3 0 390'0
+write 1 0[0+:1] 2[0+:130] 1[0+:2] 3[0+:130]";
 
-/// Checks that every sixth bit of row 1 is 1, and no other one.
-fn check_wide_rows<R: AllocGlobal + Abort>(rt: &R, rows: &Rows) {
-    for n in 0..3u32 {
-        let mut row = value(rt, 130, 0);
-        assert!(rt; rows.width() == 130 && n < rows.len());
-        rows.row(n, &mut row);
-        for i in 0..130u32 {
-            assert!(rt; i < row.width());
-            assert!(rt; row.bit(i) == (n == 1 && i % 6 == 0), "bit {i} of row {n}");
-        }
-    }
+fn check_wide_row<R: AllocGlobal + Abort>(rt: &R, rows: &Rows, n: u32, wanted: &str) {
+    let wanted = bits_of(rt, wanted);
+    let mut row = bits_of(rt, "130'0");
+    assert!(rt; rows.width() == row.width() && n < rows.len());
+    rows.row(n, &mut row);
+    assert!(rt; row.same(&wanted), "row {n}");
 }
 
 /// Row 1 is made of what every third bit of the word is, where every second is enabled, and the rows beside it stay; a
 /// round like it changes nothing.
 #[test]
 fn rows_of_many_words_are_kept_whole(rt: HostRuntime) {
-    let circuit = wide_rows(&rt);
+    let circuit = circuit_of(rt.alloc(), WIDE_ROWS).expect(&rt, "a circuit");
     assert!(&rt; circuit.validate());
-    let before = store_of(&rt, &circuit, &[0]);
-    let mut now = store_of(&rt, &circuit, &[1, 1]);
-    set_every(&mut now, 2, 2, 130);
-    set_every(&mut now, 3, 3, 130);
+    let before = store_of(&rt, &circuit, "1'0");
+    let values = "1'1 2'1 130'1.5*32 130'249249249249249249249249249249249";
+    let now = store_of(&rt, &circuit, values);
     let mut rows = start(rt.alloc(), &circuit).expect(&rt, "rows");
     let changed = clock(&circuit, &mut rows, &before, &now, &mut []);
     assert!(&rt; changed == Some(true));
     let changed = clock(&circuit, &mut rows, &before, &now, &mut []);
     assert!(&rt; changed == Some(false));
-    check_wide_rows(&rt, &rows);
+    check_wide_row(&rt, &rows, 0, "130'0");
+    check_wide_row(&rt, &rows, 1, "130'41041041041041041041041041041041");
+    check_wide_row(&rt, &rows, 2, "130'0");
 }

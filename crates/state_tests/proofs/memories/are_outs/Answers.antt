@@ -1,9 +1,8 @@
-use Rattle.std.proofs.Common.{◌≡◌, ◌<◌, ℕ, zero, suc, List, [], ◌∷◌, length, map, get_or, below_more, true, false, ◌&&◌, eqb, refl, sym, ◌∙◌, ap, arith}
+use Rattle.std.proofs.Common.{◌≡◌, ◌<◌, length, map, get_or, below_more, eqb, sym, ◌∙◌, ap, arith}
 use Rattle.std.proofs.lemmas.Bool.{and_parts}
 use Rattle.std.proofs.lemmas.Grind.{same_number_lists}
 use Rattle.std.proofs.lemmas.List.{get_or-map, length-map}
 use Rattle.sim_base.specs.BitValue.{BitValue}
-use Rattle.circuit.specs.declared.memory.ReadPort.{ReadPort}
 use Rattle.sim_base.specs.Values.{width_at, widths}
 use Rattle.state_cells.proofs.Fitting.{eq_from}
 use Rattle.memory_cells.proofs.ReadAfter.{same_width_at}
