@@ -15,153 +15,328 @@ fn has_circuit(alloc: Global, text: &str) -> Result<bool, FlatFault> {
     }
 }
 
-/// A module of four wires, with these lines behind.
-fn text_of(alloc: Global, lines: &str) -> Result<String, AllocError> {
-    format!(in alloc;
-        "module \\m\nwire input 1 \\clk\nwire width 8 \\q\nwire width 8 $n\nwire width 8 \\m\n{lines}end\n"
-    )
-}
-
-/// An adder of a name with these lines.
-fn adder(alloc: Global, name: &str, lines: &str) -> Result<String, AllocError> {
-    format!(in alloc;
-        "cell $add {name}\nparameter \\B_WIDTH 1\nparameter \\Y_WIDTH 8\n{lines}connect \\B 1'1\nend\n"
-    )
-}
-
-/// A register of a name with these lines.
-fn register(alloc: Global, name: &str, lines: &str) -> Result<String, AllocError> {
-    format!(in alloc;
-        "cell $dff {name}\nparameter \\CLK_POLARITY 1'1\n{lines}connect \\Q \\q\nend\n"
-    )
-}
-
-fn check<R: AllocGlobal + Abort>(rt: &R, lines: &str, want: bool) -> Result<(), Fail> {
-    let text = text_of(rt.alloc(), lines)?;
-    assert_eq!(rt; has_circuit(rt.alloc(), &text)?, want, "{lines}");
-    Ok(())
-}
-
-#[test]
-fn wires_of_other_forms_have_no_circuit(rt: HostRuntime) -> Result<(), Fail> {
-    for (line, want) in [
-        ("wire \\q", false),
-        ("wire width 0 \\a", false),
-        ("wire width 64 \\a", true),
-        ("wire width 65 \\a", false),
-        ("wire input 2 $a", false),
-        ("attribute \\init 1'1\nwire \\a", true),
-        (
-            "attribute \\init 1'1\nattribute \\init 1'1\nwire \\a",
-            false,
-        ),
-        ("attribute \\init 2'11\nwire \\a", false),
-        ("attribute \\init 1\nwire \\a", false),
-        ("attribute \\init \"1\"\nwire \\a", false),
-    ] {
-        let lines = format!(in rt.alloc(); "{line}\n")?;
-        check(&rt, &lines, want)?;
+/// Each section's lines stand in a module behind four wires, and its first line says whether it is built.
+fn check(rt: &impl Abort, alloc: Global, sections: &str) -> Result<(), Fail> {
+    for section in sections.split("---\n") {
+        let (want, lines) = section.split_once('\n').unwrap_or((section, ""));
+        let text = format!(in alloc;
+            "module \\m\nwire input 1 \\clk\nwire width 8 \\q\nwire width 8 $n\nwire width 8 \\m\n{lines}end\n"
+        )?;
+        let is_built = has_circuit(alloc, &text)?;
+        assert_eq!(rt; is_built, want == "built", "{lines}");
     }
     Ok(())
 }
 
-#[test]
-fn adders_of_other_forms_have_no_circuit(rt: HostRuntime) -> Result<(), Fail> {
-    for (lines, want) in [
-        (
-            "parameter \\A_WIDTH 8\nconnect \\A \\q\nconnect \\Y $n\n",
-            true,
-        ),
-        ("connect \\A \\q\nconnect \\Y $n\n", false),
-        (
-            "parameter \\A_WIDTH 8\nparameter \\A_WIDTH 8\nconnect \\A \\q\nconnect \\Y $n\n",
-            false,
-        ),
-        (
-            "parameter \\A_SIGNED 1\nparameter \\A_WIDTH 8\nconnect \\A \\q\nconnect \\Y $n\n",
-            false,
-        ),
-        (
-            "parameter \\A_WIDTH 8\nconnect \\A \\r\nconnect \\Y $n\n",
-            false,
-        ),
-        (
-            "parameter \\A_WIDTH 8\nconnect \\A $n\nconnect \\Y $n\n",
-            false,
-        ),
-        (
-            "parameter \\A_WIDTH 8\nconnect \\A \\q\nconnect \\Y \\clk\n",
-            false,
-        ),
-        (
-            "parameter \\A_WIDTH 8\nconnect \\A \\q\nconnect \\A \\q\nconnect \\Y $n\n",
-            false,
-        ),
-    ] {
-        let cell = adder(rt.alloc(), "$a", lines)?;
-        check(&rt, &cell, want)?;
-    }
-    Ok(())
-}
+const WIRES: &str = r#"refused
+wire \q
+---
+refused
+wire width 0 \a
+---
+built
+wire width 64 \a
+---
+refused
+wire width 65 \a
+---
+refused
+wire input 2 $a
+---
+built
+attribute \init 1'1
+wire \a
+---
+refused
+attribute \init 1'1
+attribute \init 1'1
+wire \a
+---
+refused
+attribute \init 2'11
+wire \a
+---
+refused
+attribute \init 1
+wire \a
+---
+refused
+attribute \init "1"
+wire \a
+"#;
+
+const ADDERS: &str = r"built
+cell $add $a
+parameter \B_WIDTH 1
+parameter \Y_WIDTH 8
+parameter \A_WIDTH 8
+connect \A \q
+connect \Y $n
+connect \B 1'1
+end
+---
+refused
+cell $add $a
+parameter \B_WIDTH 1
+parameter \Y_WIDTH 8
+connect \A \q
+connect \Y $n
+connect \B 1'1
+end
+---
+refused
+cell $add $a
+parameter \B_WIDTH 1
+parameter \Y_WIDTH 8
+parameter \A_WIDTH 8
+parameter \A_WIDTH 8
+connect \A \q
+connect \Y $n
+connect \B 1'1
+end
+---
+refused
+cell $add $a
+parameter \B_WIDTH 1
+parameter \Y_WIDTH 8
+parameter \A_SIGNED 1
+parameter \A_WIDTH 8
+connect \A \q
+connect \Y $n
+connect \B 1'1
+end
+---
+refused
+cell $add $a
+parameter \B_WIDTH 1
+parameter \Y_WIDTH 8
+parameter \A_WIDTH 8
+connect \A \r
+connect \Y $n
+connect \B 1'1
+end
+---
+refused
+cell $add $a
+parameter \B_WIDTH 1
+parameter \Y_WIDTH 8
+parameter \A_WIDTH 8
+connect \A $n
+connect \Y $n
+connect \B 1'1
+end
+---
+refused
+cell $add $a
+parameter \B_WIDTH 1
+parameter \Y_WIDTH 8
+parameter \A_WIDTH 8
+connect \A \q
+connect \Y \clk
+connect \B 1'1
+end
+---
+refused
+cell $add $a
+parameter \B_WIDTH 1
+parameter \Y_WIDTH 8
+parameter \A_WIDTH 8
+connect \A \q
+connect \A \q
+connect \Y $n
+connect \B 1'1
+end
+";
+
+const REGISTERS: &str = r"built
+cell $dff $r
+parameter \CLK_POLARITY 1'1
+parameter \WIDTH 8
+connect \CLK \clk
+connect \D $n
+connect \Q \q
+end
+---
+refused
+cell $dff $r
+parameter \CLK_POLARITY 1'1
+connect \CLK \clk
+connect \D $n
+connect \Q \q
+end
+---
+refused
+cell $dff $r
+parameter \CLK_POLARITY 1'1
+parameter \WIDTH 8
+parameter \DEPTH 8
+connect \CLK \clk
+connect \D $n
+connect \Q \q
+end
+---
+refused
+cell $dff $r
+parameter \CLK_POLARITY 1'1
+parameter \WIDTH 8
+connect \CLK \m
+connect \D $n
+connect \Q \q
+end
+---
+refused
+cell $dff $r
+parameter \CLK_POLARITY 1'1
+parameter \WIDTH 8
+connect \CLK \clk
+connect \D 1'1
+connect \Q \q
+end
+---
+refused
+cell $dff $r
+parameter \CLK_POLARITY 1'1
+parameter \WIDTH 8
+connect \CLK \clk
+connect \D \r
+connect \Q \q
+end
+";
+
+/// A wire takes one output, and adders read what stands before them.
+const CELLS: &str = r"built
+cell $add $a
+parameter \B_WIDTH 1
+parameter \Y_WIDTH 8
+parameter \A_WIDTH 8
+connect \A \q
+connect \Y \m
+connect \B 1'1
+end
+cell $add $b
+parameter \B_WIDTH 1
+parameter \Y_WIDTH 8
+parameter \A_WIDTH 8
+connect \A \m
+connect \Y $n
+connect \B 1'1
+end
+cell $dff $r
+parameter \CLK_POLARITY 1'1
+parameter \WIDTH 8
+connect \CLK \clk
+connect \D $n
+connect \Q \q
+end
+---
+refused
+cell $add $b
+parameter \B_WIDTH 1
+parameter \Y_WIDTH 8
+parameter \A_WIDTH 8
+connect \A \m
+connect \Y $n
+connect \B 1'1
+end
+cell $add $a
+parameter \B_WIDTH 1
+parameter \Y_WIDTH 8
+parameter \A_WIDTH 8
+connect \A \q
+connect \Y \m
+connect \B 1'1
+end
+cell $dff $r
+parameter \CLK_POLARITY 1'1
+parameter \WIDTH 8
+connect \CLK \clk
+connect \D $n
+connect \Q \q
+end
+---
+refused
+cell $add $a
+parameter \B_WIDTH 1
+parameter \Y_WIDTH 8
+parameter \A_WIDTH 8
+connect \A \q
+connect \Y \m
+connect \B 1'1
+end
+cell $add $a
+parameter \B_WIDTH 1
+parameter \Y_WIDTH 8
+parameter \A_WIDTH 8
+connect \A \m
+connect \Y $n
+connect \B 1'1
+end
+cell $dff $r
+parameter \CLK_POLARITY 1'1
+parameter \WIDTH 8
+connect \CLK \clk
+connect \D $n
+connect \Q \q
+end
+---
+refused
+cell $add $a
+parameter \B_WIDTH 1
+parameter \Y_WIDTH 8
+parameter \A_WIDTH 8
+connect \A \q
+connect \Y \m
+connect \B 1'1
+end
+cell $add $b
+parameter \B_WIDTH 1
+parameter \Y_WIDTH 8
+parameter \A_WIDTH 8
+connect \A \q
+connect \Y \m
+connect \B 1'1
+end
+cell $dff $r
+parameter \CLK_POLARITY 1'1
+parameter \WIDTH 8
+connect \CLK \clk
+connect \D $n
+connect \Q \q
+end
+---
+refused
+cell $add $a
+parameter \B_WIDTH 1
+parameter \Y_WIDTH 8
+parameter \A_WIDTH 8
+connect \A \q
+connect \Y \m
+connect \B 1'1
+end
+cell $add $b
+parameter \B_WIDTH 1
+parameter \Y_WIDTH 8
+parameter \A_WIDTH 8
+connect \A \m
+connect \Y \q
+connect \B 1'1
+end
+cell $dff $r
+parameter \CLK_POLARITY 1'1
+parameter \WIDTH 8
+connect \CLK \clk
+connect \D $n
+connect \Q \q
+end
+";
 
 #[test]
-fn registers_of_other_forms_have_no_circuit(rt: HostRuntime) -> Result<(), Fail> {
-    for (lines, want) in [
-        (
-            "parameter \\WIDTH 8\nconnect \\CLK \\clk\nconnect \\D $n\n",
-            true,
-        ),
-        ("connect \\CLK \\clk\nconnect \\D $n\n", false),
-        (
-            "parameter \\WIDTH 8\nparameter \\DEPTH 8\nconnect \\CLK \\clk\nconnect \\D $n\n",
-            false,
-        ),
-        (
-            "parameter \\WIDTH 8\nconnect \\CLK \\m\nconnect \\D $n\n",
-            false,
-        ),
-        (
-            "parameter \\WIDTH 8\nconnect \\CLK \\clk\nconnect \\D 1'1\n",
-            false,
-        ),
-        (
-            "parameter \\WIDTH 8\nconnect \\CLK \\clk\nconnect \\D \\r\n",
-            false,
-        ),
-    ] {
-        let cell = register(rt.alloc(), "$r", lines)?;
-        check(&rt, &cell, want)?;
-    }
-    Ok(())
-}
-
-#[test]
-fn a_wire_takes_one_output_and_adders_read_what_stands_before_them(
-    rt: HostRuntime,
-) -> Result<(), Fail> {
+fn parts_of_other_forms_have_no_circuit(rt: HostRuntime) -> Result<(), Fail> {
     let alloc = rt.alloc();
-    let first = "parameter \\A_WIDTH 8\nconnect \\A \\q\nconnect \\Y \\m\n";
-    let second = "parameter \\A_WIDTH 8\nconnect \\A \\m\nconnect \\Y $n\n";
-    let back = "parameter \\A_WIDTH 8\nconnect \\A \\m\nconnect \\Y \\q\n";
-    let held = "parameter \\WIDTH 8\nconnect \\CLK \\clk\nconnect \\D $n\n";
-    let one = adder(alloc, "$a", first)?;
-    let two = adder(alloc, "$b", second)?;
-    let namesake = adder(alloc, "$a", second)?;
-    let again = adder(alloc, "$b", first)?;
-    let onto = adder(alloc, "$b", back)?;
-    let register = register(alloc, "$r", held)?;
-    for (cells, want) in [
-        ([&one, &two, &register], true),
-        ([&two, &one, &register], false),
-        ([&one, &namesake, &register], false),
-        ([&one, &again, &register], false),
-        ([&one, &onto, &register], false),
-    ] {
-        let [a, b, c] = cells;
-        let lines = format!(in alloc; "{a}{b}{c}")?;
-        check(&rt, &lines, want)?;
-    }
-    Ok(())
+    check(&rt, alloc, WIRES)?;
+    check(&rt, alloc, ADDERS)?;
+    check(&rt, alloc, REGISTERS)?;
+    check(&rt, alloc, CELLS)
 }
 
 /// A module of so many wires of one bit, each of another name.

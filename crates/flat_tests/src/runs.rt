@@ -17,18 +17,24 @@ fn run(alloc: Global, design: &str, stimulus: &str) -> Result<FlatRun, FlatFault
     Ok(FlatRun::new(alloc, circuit, stimulus)?)
 }
 
+fn number(word: &str) -> u64 {
+    word.parse().unwrap_or(u64::MAX)
+}
+
 /// Asks the run, in this order, how many of so many first samples settle.
 fn settle(
     rt: &impl Abort,
     alloc: Global,
     design: &str,
     stimulus: &str,
-    rows: &[(u64, u64)],
+    rows: &str,
 ) -> Result<(), Fail> {
     let mut run = run(alloc, design, stimulus)?;
-    for (want, settled) in rows {
-        assert!(rt; *want <= run.count());
-        assert_eq!(rt; run.reach(*want), *settled, "of {want}");
+    for row in rows.split(", ") {
+        let (want, settled) = row.split_once(' ').unwrap_or((row, ""));
+        let want = number(want);
+        assert!(rt; want <= run.count());
+        assert_eq!(rt; run.reach(want), number(settled), "of {want}");
     }
     Ok(())
 }
@@ -36,45 +42,42 @@ fn settle(
 #[test]
 fn samples_are_followed_as_far_as_they_settle(rt: HostRuntime) -> Result<(), Fail> {
     let alloc = rt.alloc();
-    let all = [(0, 0), (1, 1), (4, 4), (6, 6), (2, 2), (0, 0), (6, 6)];
-    settle(&rt, alloc, COUNTER, SIX, &all)?;
-    let first = [(0, 0), (1, 1), (2, 1), (6, 1), (1, 1), (3, 1)];
-    settle(&rt, alloc, RING, SIX, &first)?;
-    settle(&rt, alloc, RING, HIGH_FIRST, &[(2, 0), (0, 0), (1, 0)])?;
-    settle(&rt, alloc, COUNTER, HIGH_FIRST, &[(2, 2), (1, 1)])?;
-    Ok(())
+    settle(
+        &rt,
+        alloc,
+        COUNTER,
+        SIX,
+        "0 0, 1 1, 4 4, 6 6, 2 2, 0 0, 6 6",
+    )?;
+    settle(&rt, alloc, RING, SIX, "0 0, 1 1, 2 1, 6 1, 1 1, 3 1")?;
+    settle(&rt, alloc, RING, HIGH_FIRST, "2 0, 0 0, 1 0")?;
+    settle(&rt, alloc, COUNTER, HIGH_FIRST, "2 2, 1 1")
 }
+
+/// Times, and how many samples there are up to each.
+const COUNTS: &str = "0.0 1
+0.000000004999999 1
+0.000000005 2
+0.000000015 4
+0.000000024999999 5
+0.000000025 6
+4294967295.999999999999999 6";
 
 #[test]
 fn samples_have_times(rt: HostRuntime) -> Result<(), Fail> {
     let run = run(rt.alloc(), COUNTER, SIX)?;
     assert_eq!(rt; run.count(), 6);
-    let femtoseconds = [0, 5_000_000, 10_000_000, 15_000_000, 20_000_000, 25_000_000];
-    let mut k = 0;
-    for want in femtoseconds {
-        assert!(rt; k < run.count());
-        assert_eq!(rt; run.time(k).femtoseconds(), want, "sample {k}");
-        k += 1;
+    for k in 0..6 {
+        assert_eq!(rt;
+            run.time(k).femtoseconds(),
+            u128::from(k) * 5_000_000,
+            "sample {k}"
+        );
     }
-    Ok(())
-}
-
-#[test]
-fn samples_are_counted_up_to_a_time(rt: HostRuntime) -> Result<(), Fail> {
-    let run = run(rt.alloc(), COUNTER, SIX)?;
-    let rows = [
-        ("0.0", 1),
-        ("0.000000004999999", 1),
-        ("0.000000005", 2),
-        ("0.000000015", 4),
-        ("0.000000024999999", 5),
-        ("0.000000025", 6),
-        ("4294967295.999999999999999", 6),
-    ];
-    for (time, want) in rows {
-        let time = Time::read(time.as_bytes());
-        let count = time.map(|time| run.count_until(time));
-        assert!(rt; count == Some(want), "{want}");
+    for row in COUNTS.lines() {
+        let (time, count) = row.split_once(' ').unwrap_or((row, ""));
+        let found = Time::read(time.as_bytes()).map(|time| run.count_until(time));
+        assert!(rt; found == Some(number(count)), "{row}");
     }
     Ok(())
 }
