@@ -9,7 +9,7 @@ ghost use Rattle.sim_base.specs.Values.{IsPut, width_at};
 use crate::computed::computed_of_parts;
 use crate::truth::put_truth;
 use crate::values::{are_same, digitwise, write_bitwise, write_unary};
-use circuit::Cell;
+use circuit::{Cell, Op};
 use signal_words::{whole_sig_word, whole_value, whole_value_of_width, whole_word};
 use sim_base::Values;
 
@@ -43,10 +43,11 @@ fn unary_of_words<'a>(cell: &'a Cell, nets: &'a Values, into: &mut Values, out: 
     computed_of_parts(cell, nets, into, out)
 }
 
-/// `$and`, `$or`, `$xor` and `$xnor`.
+/// `$and`, `$or`, `$xor` and `$xnor`. The type is given apart from the cell, so that each has a way of its own.
 #[inline(always)]
-pub fn bitwise_values(cell: &Cell, nets: &Values, into: &mut Values, out: u32) -> bool
-    requires kind { is_bitwise cell.now.op ≡ true }
+pub fn bitwise_values(op: Op, cell: &Cell, nets: &Values, into: &mut Values, out: u32) -> bool
+    requires kind { is_bitwise op ≡ true }
+    requires op { cell.now.op ≡ op }
     requires ready { IsWideReady nets.now cell.now into.old out }
     ensures { IsPut out (output (digits_in nets.now) cell.now) into.old into.new result }
 {
@@ -54,17 +55,24 @@ pub fn bitwise_values(cell: &Cell, nets: &Values, into: &mut Values, out: u32) -
     if width <= 64 {
         if let Some(a) = whole_word(cell.a.as_slice(), nets, width) {
             if let Some(b) = whole_word(cell.b.as_slice(), nets, width) {
-                return into.put_word(out, digitwise(cell.op, width, a, b));
+                return into.put_word(out, digitwise(op, width, a, b));
             }
         }
     }
-    bitwise_of_words(cell, nets, into, out)
+    bitwise_of_words(cell, nets, into, out, op)
 }
 
 /// `$and`, `$or`, `$xor` and `$xnor` of values of many words.
 #[inline(never)]
-fn bitwise_of_words<'a>(cell: &'a Cell, nets: &'a Values, into: &mut Values, out: u32) -> bool
-    requires kind { is_bitwise cell.now.op ≡ true }
+fn bitwise_of_words<'a>(
+    cell: &'a Cell,
+    nets: &'a Values,
+    into: &mut Values,
+    out: u32,
+    op: Op,
+) -> bool
+    requires kind { is_bitwise op ≡ true }
+    requires op { cell.now.op ≡ op }
     requires ready { IsWideReady nets.now cell.now into.old out }
     ensures { IsPut out (output (digits_in nets.now) cell.now) into.old into.new result }
 {
@@ -73,7 +81,7 @@ fn bitwise_of_words<'a>(cell: &'a Cell, nets: &'a Values, into: &mut Values, out
         let _ = a.width();
         if let Some(b) = whole_value_of_width(cell.b.as_slice(), nets, width) {
             let _ = b.width();
-            return write_bitwise(cell.op, &a, &b, into, out);
+            return write_bitwise(op, &a, &b, into, out);
         }
     }
     computed_of_parts(cell, nets, into, out)

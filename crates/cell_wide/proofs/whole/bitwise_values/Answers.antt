@@ -15,7 +15,7 @@ returns-in-Some-whole_word c =
     let b = c.in-Some-whole_word.b in
     let signed = cell.a_signed && cell.b_signed in
     same_put c.args.out _ (output digits cell) c.args.into.now c.put_word.new.self c.put_word.result
-    (c.digitwise.ensures.value ∙ bitwise_digits digits cell cell.op w a b refl c.requires.kind refl
+    (c.digitwise.ensures.value ∙ bitwise_digits digits cell c.args.op w a b c.requires.op c.requires.kind refl
     (whole_operand digits signed c.as_slice.result.now cell.a (bit_value w a) w c.in-Some.ensures.value c.in-Some.ensures.below refl c.as_slice.ensures)
     (whole_operand digits signed c.as_slice-in-Some.result.now cell.b (bit_value w b) w c.in-Some-whole_word.ensures.value c.in-Some-whole_word.ensures.below refl c.as_slice-in-Some.ensures))
     c.put_word.ensures
