@@ -6,6 +6,8 @@ use outside::{
 use sim_base::Name;
 use std::alloc::Global;
 use std::io::{self, ErrorKind, Read};
+use std::process::Abort;
+use std::str::from_utf8;
 use std::test::Fail;
 
 fn read<S: Shelf>(
@@ -28,11 +30,32 @@ fn write<S: Shelf>(
     shelf.write(alloc, &name, bytes)
 }
 
-fn answer_of(read: &Result<Vec<u8>, ShelfFault>) -> Result<&[u8], ShelfFault> {
+/// The bytes that were read, or the fault.
+fn told_of_read(alloc: Global, read: &Result<Vec<u8>, ShelfFault>) -> Result<String, Fail> {
     match read {
-        Ok(bytes) => Ok(bytes.as_slice()),
-        Err(fault) => Err(*fault),
+        Ok(bytes) => Ok(format!(in alloc; "{}", from_utf8(bytes)?)?),
+        Err(fault) => Ok(format!(in alloc; "{fault:?}")?),
     }
+}
+
+/// Each row's file is read up to its limit, or its fault comes.
+fn check_reads<S: Shelf>(
+    rt: &impl Abort,
+    alloc: Global,
+    shelf: &mut S,
+    rows: &str,
+) -> Result<(), Fail> {
+    for row in rows.lines() {
+        let (asked, want) = row.split_once(" -> ").unwrap_or((row, ""));
+        let (name, limit) = asked.split_once(' ').unwrap_or((asked, ""));
+        let got = read(shelf, alloc, name.as_bytes(), number(limit));
+        assert_eq!(rt; told_of_read(alloc, &got)?.as_str(), want, "{row}");
+    }
+    Ok(())
+}
+
+fn number(word: &str) -> u64 {
+    word.parse().unwrap_or(u64::MAX)
 }
 
 #[test]
@@ -40,18 +63,13 @@ fn a_shelf_in_memory_reads_its_files_and_fails_as_listed(rt: HostRuntime) -> Res
     let alloc = rt.alloc();
     let mut shelves = Shelves::new(alloc).failing_reads(vec![in alloc; 3]?);
     shelves.add(Name::copy_of(alloc, b"clock")?, b"tick".to_vec(alloc)?)?;
-    let rows: [(&[u8], u64, Result<&[u8], ShelfFault>); 6] = [
-        (b"clock", 4, Ok(b"tick")),
-        (b"clock", 3, Err(ShelfFault::TooLong)),
-        (b"clock", 4, Err(ShelfFault::Failed)),
-        (b"cloc", 4, Err(ShelfFault::Failed)),
-        (b"clock", 0, Err(ShelfFault::TooLong)),
-        (b"clock", u64::MAX, Ok(b"tick")),
-    ];
-    for (name, limit, want) in rows {
-        let got = read(&mut shelves, alloc, name, limit);
-        assert_eq!(rt; answer_of(&got), want, "{name:?} of at most {limit} bytes");
-    }
+    let rows = "clock 4 -> tick
+clock 3 -> TooLong
+clock 4 -> Failed
+cloc 4 -> Failed
+clock 0 -> TooLong
+clock 18446744073709551615 -> tick";
+    check_reads(&rt, alloc, &mut shelves, rows)?;
     assert_eq!(rt; shelves.read_faults(), 2);
     assert_eq!(rt; shelves.write_faults(), 0);
     Ok(())
@@ -61,16 +79,18 @@ fn a_shelf_in_memory_reads_its_files_and_fails_as_listed(rt: HostRuntime) -> Res
 fn a_shelf_in_memory_keeps_what_is_written(rt: HostRuntime) -> Result<(), Fail> {
     let alloc = rt.alloc();
     let mut shelves = Shelves::new(alloc).failing_writes(vec![in alloc; 2]?);
-    let rows: [(&[u8], &[u8], Result<(), ShelfFault>, &[u8]); 4] = [
-        (b"log", b"one", Ok(()), b"one"),
-        (b"log", b"two", Err(ShelfFault::Failed), b"one"),
-        (b"log", b"three", Ok(()), b"three"),
-        (b"trace", b"", Ok(()), b""),
-    ];
-    for (name, bytes, want, left) in rows {
-        let name = Name::copy_of(alloc, name)?;
-        assert_eq!(rt; shelves.write(alloc, &name, bytes), want, "{name:?}");
-        assert!(rt; shelves.bytes_of(&name) == Some(left), "{name:?}");
+    let rows = "log one -> Ok(()) one
+log two -> Err(Failed) one
+log three -> Ok(()) three
+trace  -> Ok(()) ";
+    for row in rows.lines() {
+        let (asked, want) = row.split_once(" -> ").unwrap_or((row, ""));
+        let (name, bytes) = asked.split_once(' ').unwrap_or((asked, ""));
+        let name = Name::copy_of(alloc, name.as_bytes())?;
+        let written = shelves.write(alloc, &name, bytes.as_bytes());
+        let left = from_utf8(shelves.bytes_of(&name).ok_or("no file")?)?;
+        let told = format!(in alloc; "{written:?} {left}")?;
+        assert_eq!(rt; told.as_str(), want, "{row}");
     }
     let missing = Name::copy_of(alloc, b"none")?;
     assert!(rt; shelves.bytes_of(&missing).is_none());
@@ -78,29 +98,28 @@ fn a_shelf_in_memory_keeps_what_is_written(rt: HostRuntime) -> Result<(), Fail> 
     Ok(())
 }
 
+/// How many bytes a call takes at most, which call fails, a text, and whether it was put and what is held.
+const PUTS: &str = "9 0 hello -> true hello
+2 0 hello -> true hello
+2 3 hello -> false hell
+2 1 hello -> false 
+1 6 hello -> true hello
+1 1  -> true ";
+
 #[test]
 fn a_sink_in_memory_holds_what_it_took(rt: HostRuntime) -> Result<(), Fail> {
     let alloc = rt.alloc();
-    let fault: Result<(), SinkFault> = Err(SinkFault);
-    let rows: [(usize, u64, &[u8], Result<(), SinkFault>, &[u8]); 6] = [
-        (9, 0, b"hello", Ok(()), b"hello"),
-        (2, 0, b"hello", Ok(()), b"hello"),
-        (2, 3, b"hello", fault, b"hell"),
-        (2, 1, b"hello", fault, b""),
-        (1, 6, b"hello", Ok(()), b"hello"),
-        (1, 1, b"", Ok(()), b""),
-    ];
-    for (most, failing, text, want, held) in rows {
+    for row in PUTS.lines() {
+        let (asked, want) = row.split_once(" -> ").unwrap_or((row, ""));
+        let (most, rest) = asked.split_once(' ').unwrap_or((asked, ""));
+        let (failing, text) = rest.split_once(' ').unwrap_or((rest, ""));
         let mut gathered = Gathered::new(alloc)
-            .taking(most)
-            .failing(vec![in alloc; failing]?);
-        assert_eq!(rt;
-            put_all(&mut gathered, text),
-            want,
-            "{most} bytes at a call"
-        );
-        assert_eq!(rt; gathered.bytes(), held, "{most} bytes at a call");
-        assert_eq!(rt; gathered.faults(), u64::from(want.is_err()));
+            .taking(most.parse().unwrap_or(1).max(1))
+            .failing(vec![in alloc; number(failing)]?);
+        let is_put = put_all(&mut gathered, text.as_bytes()).is_ok();
+        let told = format!(in alloc; "{is_put} {}", from_utf8(gathered.bytes())?)?;
+        assert_eq!(rt; told.as_str(), want, "{row}");
+        assert_eq!(rt; gathered.faults(), u64::from(!is_put));
     }
     let mut gathered = Gathered::with_room(alloc, 5)?;
     assert_eq!(rt; gathered.write(b"hello"), Put::Took(5));
@@ -111,34 +130,24 @@ fn a_sink_in_memory_holds_what_it_took(rt: HostRuntime) -> Result<(), Fail> {
 fn the_files_of_the_system_are_written_and_read(rt: HostRuntime) -> Result<(), Fail> {
     let alloc = rt.alloc();
     let mut files = Files::new(&rt);
+    let failed = Err(ShelfFault::Failed);
     let long = vec![in alloc; b'x'; 20000]?;
     assert_eq!(rt; write(&mut files, alloc, b"short", b"0123456789"), Ok(()));
     assert_eq!(rt; write(&mut files, alloc, b"short", b"ten"), Ok(()));
     assert_eq!(rt; write(&mut files, alloc, b"long", &long), Ok(()));
-    assert_eq!(rt;
-        write(&mut files, alloc, b"none/short", b"0"),
-        Err(ShelfFault::Failed)
-    );
-    assert_eq!(rt;
-        write(&mut files, alloc, b"\xff", b"0"),
-        Err(ShelfFault::Failed)
-    );
-    let rows: [(&[u8], u64, Result<&[u8], ShelfFault>); 7] = [
-        (b"short", 3, Ok(b"ten")),
-        (b"short", 2, Err(ShelfFault::TooLong)),
-        (b"long", 20000, Ok(&long)),
-        (b"long", 19999, Err(ShelfFault::TooLong)),
-        (b"long", u64::MAX, Ok(&long)),
-        (b"none", 3, Err(ShelfFault::Failed)),
-        (b"\xff", 3, Err(ShelfFault::Failed)),
-    ];
-    for (name, limit, want) in rows {
-        let got = read(&mut files, alloc, name, limit);
-        assert!(rt;
-            answer_of(&got) == want,
-            "{name:?} of at most {limit} bytes"
-        );
+    assert_eq!(rt; write(&mut files, alloc, b"none/short", b"0"), failed);
+    assert_eq!(rt; write(&mut files, alloc, b"\xff", b"0"), failed);
+    let rows = "short 3 -> ten
+short 2 -> TooLong
+long 19999 -> TooLong
+none 3 -> Failed";
+    check_reads(&rt, alloc, &mut files, rows)?;
+    for limit in [20000, u64::MAX] {
+        let got = read(&mut files, alloc, b"long", limit)?;
+        assert!(rt; got == long, "of at most {limit} bytes");
     }
+    let nameless = read(&mut files, alloc, b"\xff", 3);
+    assert!(rt; matches!(&nameless, Err(ShelfFault::Failed)));
     Ok(())
 }
 
@@ -159,57 +168,55 @@ fn the_standard_streams_take_bytes(rt: HostRuntime) {
 }
 
 /// The answer of a read of a source, and the bytes that it gave.
-fn read_piece<'b, S: Source>(source: &mut S, buffer: &'b mut [u8; 3]) -> (Got, &'b [u8]) {
-    let got = source.read(buffer);
-    match got {
-        Got::Bytes(count) => (got, &buffer[..count]),
-        _ => (got, b""),
+fn told_of_piece<S: Source>(alloc: Global, source: &mut S) -> Result<String, Fail> {
+    let mut buffer = [b'.'; 3];
+    match source.read(&mut buffer) {
+        Got::Bytes(count) => Ok(format!(in alloc; "{}", from_utf8(&buffer[..count])?)?),
+        got => Ok(format!(in alloc; "{got:?}")?),
     }
 }
+
+/// Each piece of a source is read, in this order.
+fn check_pieces<S: Source>(
+    rt: &impl Abort,
+    alloc: Global,
+    source: &mut S,
+    pieces: &str,
+) -> Result<(), Fail> {
+    for piece in pieces.split(", ") {
+        assert_eq!(rt;
+            told_of_piece(alloc, source)?.as_str(),
+            piece,
+            "of {pieces}"
+        );
+    }
+    Ok(())
+}
+
+/// How many bytes a call gives at most, what comes, and what is left.
+const PIECES: &str = "9 -> hel, lo world
+9 -> Failed, lo world
+1 -> l, o world
+2 -> o , world
+2 -> Failed, world
+9 -> wor, ld
+9 -> ld, 
+9 -> End, ";
 
 #[test]
 fn a_source_in_memory_gives_its_bytes_once(rt: HostRuntime) -> Result<(), Fail> {
     let alloc = rt.alloc();
     let mut bytes = Bytes::new(alloc, b"hello world".to_vec(alloc)?).failing(vec![in alloc; 2, 5]?);
-    let rows: [(usize, Got, &[u8], &[u8]); 8] = [
-        (9, Got::Bytes(3), b"hel", b"lo world"),
-        (9, Got::Failed, b"", b"lo world"),
-        (1, Got::Bytes(1), b"l", b"o world"),
-        (2, Got::Bytes(2), b"o ", b"world"),
-        (2, Got::Failed, b"", b"world"),
-        (9, Got::Bytes(3), b"wor", b"ld"),
-        (9, Got::Bytes(2), b"ld", b""),
-        (9, Got::End, b"", b""),
-    ];
-    for (most, want, given, left) in rows {
-        bytes = bytes.giving(most);
-        let mut buffer = [b'.'; 3];
-        assert_eq!(rt; read_piece(&mut bytes, &mut buffer), (want, given));
-        assert_eq!(rt; bytes.left(), left);
+    for row in PIECES.lines() {
+        let (most, want) = row.split_once(" -> ").unwrap_or((row, ""));
+        bytes = bytes.giving(most.parse().unwrap_or(1).max(1));
+        let got = told_of_piece(alloc, &mut bytes)?;
+        let told = format!(in alloc; "{}, {}", got.as_str(), from_utf8(bytes.left())?)?;
+        assert_eq!(rt; told.as_str(), want, "{row}");
     }
     assert_eq!(rt; bytes.faults(), 2);
-    let mut buffer = [b'.'; 3];
-    assert_eq!(rt; bytes.read(&mut buffer), Got::End);
-    assert_eq!(rt;
-        Bytes::new(alloc, Vec::new(alloc)).read(&mut buffer),
-        Got::End
-    );
-    Ok(())
-}
-
-#[test]
-fn a_reader_is_a_source_of_its_bytes(rt: HostRuntime) {
-    let mut reader = Reader::new(b"stdin".as_slice());
-    let rows: [(Got, &[u8]); 4] = [
-        (Got::Bytes(3), b"std"),
-        (Got::Bytes(2), b"in"),
-        (Got::End, b""),
-        (Got::End, b""),
-    ];
-    for (want, given) in rows {
-        let mut buffer = [b'.'; 3];
-        assert_eq!(rt; read_piece(&mut reader, &mut buffer), (want, given));
-    }
+    check_pieces(&rt, alloc, &mut bytes, "End")?;
+    check_pieces(&rt, alloc, &mut Bytes::new(alloc, Vec::new(alloc)), "End")
 }
 
 /// A reader that is interrupted, fails, gives one byte, gives nothing, and then gives bytes again.
@@ -237,42 +244,25 @@ impl Read for Faulty {
 }
 
 #[test]
-fn a_reader_is_read_again_where_it_was_interrupted_and_never_behind_its_end(rt: HostRuntime) {
-    let mut reader = Reader::new(Faulty { calls: 0 });
-    let rows: [(Got, &[u8]); 4] = [
-        (Got::Failed, b""),
-        (Got::Bytes(1), b"x"),
-        (Got::End, b""),
-        (Got::End, b""),
-    ];
-    for (want, given) in rows {
-        let mut buffer = [b'.'; 3];
-        assert_eq!(rt; read_piece(&mut reader, &mut buffer), (want, given));
-    }
-}
-
-#[test]
-fn the_standard_input_comes_to_its_end(rt: HostRuntime) {
-    let mut input = StdIn::new(rt.stdin());
-    let mut buffer = [b'.'; 3];
-    assert_eq!(rt;
-        read_piece(&mut input, &mut buffer),
-        (Got::End, b"".as_slice())
-    );
+fn a_reader_is_a_source_of_its_bytes_up_to_its_end(rt: HostRuntime) -> Result<(), Fail> {
+    let alloc = rt.alloc();
+    let mut reader = Reader::new(b"stdin".as_slice());
+    check_pieces(&rt, alloc, &mut reader, "std, in, End, End")?;
+    let mut faulty = Reader::new(Faulty { calls: 0 });
+    check_pieces(&rt, alloc, &mut faulty, "Failed, x, End, End")?;
+    check_pieces(&rt, alloc, &mut StdIn::new(rt.stdin()), "End")
 }
 
 #[test]
 fn faults_have_texts(rt: HostRuntime) -> Result<(), Fail> {
-    let rows: [(ShelfFault, &str); 3] = [
-        (ShelfFault::Failed, "a file could not be read or written"),
-        (ShelfFault::TooLong, "a file is too long"),
-        (ShelfFault::NoMemory, "out of memory"),
-    ];
-    for (fault, want) in rows {
-        let text = format!(in rt.alloc(); "{fault}")?;
-        assert_eq!(rt; text.as_str(), want);
-    }
-    let text = format!(in rt.alloc(); "{SinkFault}")?;
-    assert_eq!(rt; text.as_str(), "a sink failed");
+    let (failed, long, memory) = (
+        ShelfFault::Failed,
+        ShelfFault::TooLong,
+        ShelfFault::NoMemory,
+    );
+    let text = format!(in rt.alloc(); "{failed}; {long}; {memory}; {SinkFault}")?;
+    let want =
+        "a file could not be read or written; a file is too long; out of memory; a sink failed";
+    assert_eq!(rt; text.as_str(), want);
     Ok(())
 }
