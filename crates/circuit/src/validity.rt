@@ -27,7 +27,8 @@ use signals::{WIDEST, drive_fits};
 
 impl Circuit {
     /// Whether this is a circuit that the other crates take: numbers of 32 bits count each list that they
-    /// name, the slots, the nodes of an order of evaluation and the bits of all nets together; each number
+    /// name, the slots, the nodes of an order of evaluation, the bits of all nets together, and the words of 64
+    /// bits that the values of all nets, of all outputs of cells and of all registers take; each number
     /// names what is there, each part and each drive lies inside its net, each signal and value has the
     /// width that its type gives it, the items stand in the byte order of their names with their slots in
     /// turn, and texts are UTF-8.
