@@ -6,8 +6,6 @@ mod diagnostics;
 #[cfg(test)]
 mod memories;
 #[cfg(test)]
-mod parts;
-#[cfg(test)]
 mod registers;
 #[cfg(test)]
 mod samples;
