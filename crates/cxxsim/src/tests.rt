@@ -7,23 +7,15 @@ use crate::outcome::Outcome;
 use crate::program::run;
 use outside::{Bytes, Gathered, Shelves};
 use sim_base::{Name, NoMemory};
-use std::alloc::{AllocError, Global};
-use std::process::Abort;
+use std::alloc::Global;
+use std::str::from_utf8;
 use std::test::Fail;
+use test_designs::designs::{COUNTER, COUNTER_AS_WRITTEN, RING};
+use test_designs::stimuli::SIX;
 
 const USAGE: &str = "usage: cxxsim trace|solo|serve|replay|demo [NUMBER] [OPTIONS]\n";
 
-const WORDS: [&str; 5] = ["trace", "--design", "design", "--stimulus", "stimulus"];
-
-/// Two files, and what a trace of them answers and prints.
-#[derive(Clone, Copy)]
-struct Row<'a> {
-    design: &'a str,
-    stimulus: &'a str,
-    status: u8,
-    out: &'a str,
-    log: &'a str,
-}
+const WORDS: &str = "trace --design design --stimulus stimulus";
 
 /// The numbers of the calls that fail; 0 is none.
 #[derive(Clone, Copy)]
@@ -55,46 +47,21 @@ impl Ended {
     }
 }
 
-/// A counter of 8 bits, whose sum is by a cell of this type.
-fn counter(alloc: Global, kind: &str) -> Result<String, AllocError> {
-    format!(in alloc;
-        "autoidx 5
-attribute \\top 1
-attribute \\src \"counter.v:1.1-7.10\"
-module \\counter
-  wire input 1 \\clk
-  attribute \\init 8'00000000
-  wire width 8 output 2 \\q
-  wire width 8 $n
-  cell {kind} $a
-    parameter \\A_SIGNED 0
-    parameter \\A_WIDTH 8
-    parameter \\B_SIGNED 0
-    parameter \\B_WIDTH 1
-    parameter \\Y_WIDTH 8
-    connect \\A \\q
-    connect \\B 1'1
-    connect \\Y $n
-  end
-  cell $dff $r
-    parameter \\CLK_POLARITY 1'1
-    parameter \\WIDTH 8
-    connect \\CLK \\clk
-    connect \\D $n
-    connect \\Q \\q
-  end
-end
-"
-    )
+/// A text with a bar for each line's end.
+fn barred(alloc: Global, bytes: &[u8]) -> Result<String, Fail> {
+    let mut text = String::new(alloc);
+    for line in from_utf8(bytes)?.split_inclusive('\n') {
+        match line.strip_suffix('\n') {
+            Some(line) => write!(text, "{line}|")?,
+            None => text.push_str(line)?,
+        }
+    }
+    Ok(text)
 }
 
-const COUNTS: &str = "stimulus 0
-inputs clk
-block 3 0.00000001
-0.0 0
-0.000000005 1
-end
-";
+fn number(word: Option<&str>) -> u64 {
+    word.and_then(|word| word.parse().ok()).unwrap_or(u64::MAX)
+}
 
 const COUNTED: &str = "items 2
 1 clk
@@ -108,33 +75,10 @@ const COUNTED: &str = "items 2
 end 6
 ";
 
-/// A register of one bit that takes `d` where `clk` rises.
-fn register(alloc: Global, clk: &str, d: &str, q: &str) -> Result<String, AllocError> {
-    format!(in alloc;
-        "cell $dff $r{q}
-parameter \\CLK_POLARITY 1'1
-parameter \\WIDTH 1
-connect \\CLK {clk}
-connect \\D {d}
-connect \\Q {q}
-end
-"
-    )
-}
-
-/// The lowest bit of the sum of two bits.
-fn sum(alloc: Global, a: &str, b: &str, y: &str) -> Result<String, AllocError> {
-    format!(in alloc;
-        "cell $add $a{y}
-parameter \\A_WIDTH 1
-parameter \\B_WIDTH 1
-parameter \\Y_WIDTH 1
-connect \\A {a}
-connect \\B {b}
-connect \\Y {y}
-end
-"
-    )
+/// The counter with a subtractor, which is no part of the first form of designs.
+fn counter_by_sub(alloc: Global) -> Result<String, Fail> {
+    let (front, behind) = COUNTER.split_once("$add").ok_or("no adder")?;
+    Ok(format!(in alloc; "{front}$sub{behind}")?)
 }
 
 fn shelf_of(alloc: Global, design: &str, stimulus: &str, failing: u64) -> Result<Shelves, Fail> {
@@ -149,14 +93,14 @@ fn shelf_of(alloc: Global, design: &str, stimulus: &str, failing: u64) -> Result
 /// Calls the program over these two files. Its sinks take at most 7 bytes at a call.
 fn called<R: AllocGlobal>(
     rt: &R,
-    words: &[&str],
+    words: &str,
     design: &str,
     stimulus: &str,
     failing: Failing,
 ) -> Result<Ended, Fail> {
     let alloc = rt.alloc();
     let mut given = Vec::new(alloc);
-    for word in words {
+    for word in words.split_whitespace() {
         given.push(String::from_str(alloc, word)?)?;
     }
     let mut shelf = shelf_of(alloc, design, stimulus, failing.read)?;
@@ -171,123 +115,81 @@ fn called<R: AllocGlobal>(
     Ok(Ended { status, out, log })
 }
 
-fn check_rows<R: AllocGlobal + Abort>(rt: &R, rows: &[Row]) -> Result<(), Fail> {
-    for row in rows {
-        let ended = called(rt, &WORDS, row.design, row.stimulus, NONE)?;
-        assert!(rt; ended.is(row.status, row.out, row.log), "{}", row.design);
-    }
-    Ok(())
-}
-
-#[test]
-fn a_design_under_a_stimulus_is_traced(rt: HostRuntime) -> Result<(), Fail> {
-    let alloc = rt.alloc();
-    let counter = counter(alloc, "$add")?;
-    let constant = register(alloc, "\\clk", "1'1", "\\q")?;
-    let constant = format!(in alloc;
-        "module \\m
-wire input 1 \\clk
-wire output 2 \\q
-{constant}end
-"
-    )?;
-    check_rows(
-        &rt,
-        &[
-            Row {
-                design: &counter,
-                stimulus: COUNTS,
-                status: 0,
-                out: COUNTED,
-                log: "",
-            },
-            // No inputs, and an output that nothing drives.
-            Row {
-                design: "module \\m\nwire width 3 output 1 \\y\nend\n",
-                stimulus: "stimulus 0\ninputs\nblock 1 1.0\n0.0\nend\n",
-                status: 0,
-                out: "items 1\n3 y\n0.000000000000000 0\nend 1\n",
-                log: "",
-            },
-            // The first sample is a rising edge, since all inputs were 0 before it.
-            Row {
-                design: &constant,
-                stimulus: "stimulus 0\ninputs clk\nblock 1 1.0\n0.0 1\nend\n",
-                status: 0,
-                out: "items 2\n1 clk\n1 q\n0.000000000000000 1 1\nend 1\n",
-                log: "",
-            },
-        ],
-    )
-}
-
-/// Two registers, one behind the other.
-fn chain(alloc: Global) -> Result<String, AllocError> {
-    let first = register(alloc, "\\clk", "\\d", "\\q1")?;
-    let second = register(alloc, "\\clk", "\\q1", "\\q2")?;
-    format!(in alloc;
-        "module \\m
-wire input 1 \\clk
-wire input 2 \\d
-wire output 3 \\q1
-wire output 4 \\q2
-{first}{second}end
-"
-    )
-}
-
-/// `x` takes `d` at `clk`, `g` the inverse of `g` at `clk`, and `y` takes `x` where `g` rises.
-fn rounds(alloc: Global) -> Result<String, AllocError> {
-    let x = register(alloc, "\\clk", "\\d", "\\x")?;
-    let inverse = sum(alloc, "\\g", "1'1", "$n")?;
-    let g = register(alloc, "\\clk", "$n", "\\g")?;
-    let y = register(alloc, "\\g", "\\x", "\\y")?;
-    format!(in alloc;
-        "module \\m
-wire input 1 \\clk
-wire input 2 \\d
-wire \\g
-wire \\x
-wire \\y
-wire $n
-{inverse}{x}{g}{y}end
-"
-    )
-}
-
-/// `t` and `b` clock each other by their parity: once `clk` is 1, one of them changes in each round.
-fn ring(alloc: Global) -> Result<String, AllocError> {
-    let parity = sum(alloc, "\\t", "\\b", "$p")?;
-    let other = sum(alloc, "$p", "\\clk", "$o")?;
-    let not_t = sum(alloc, "\\t", "1'1", "$t")?;
-    let not_b = sum(alloc, "\\b", "1'1", "$b")?;
-    let t = register(alloc, "$o", "$t", "\\t")?;
-    let b = register(alloc, "$p", "$b", "\\b")?;
-    format!(in alloc;
-        "module \\m
-wire input 1 \\clk
-wire \\t
-wire \\b
-wire $p
-wire $o
-wire $t
-wire $b
-{parity}{other}{not_t}{not_b}{t}{b}end
-"
-    )
-}
-
-#[test]
-fn registers_move_together_at_an_edge(rt: HostRuntime) -> Result<(), Fail> {
-    let chain = chain(rt.alloc())?;
-    let edges = "stimulus 0
+/// What is shown, and below it a design, a stimulus and the trace.
+const TRACES: &str = r"No inputs, and an output that nothing drives.
+---
+module \m
+wire width 3 output 1 \y
+end
+---
+stimulus 0
+inputs
+block 1 1.0
+0.0
+end
+---
+items 1
+3 y
+0.000000000000000 0
+end 1
+===
+The first sample is a rising edge, since all inputs were 0 before it.
+---
+module \m
+wire input 1 \clk
+wire output 2 \q
+cell $dff $r\q
+parameter \CLK_POLARITY 1'1
+parameter \WIDTH 1
+connect \CLK \clk
+connect \D 1'1
+connect \Q \q
+end
+end
+---
+stimulus 0
+inputs clk
+block 1 1.0
+0.0 1
+end
+---
+items 2
+1 clk
+1 q
+0.000000000000000 1 1
+end 1
+===
+Two registers, one behind the other, move together at an edge.
+---
+module \m
+wire input 1 \clk
+wire input 2 \d
+wire output 3 \q1
+wire output 4 \q2
+cell $dff $r\q1
+parameter \CLK_POLARITY 1'1
+parameter \WIDTH 1
+connect \CLK \clk
+connect \D \d
+connect \Q \q1
+end
+cell $dff $r\q2
+parameter \CLK_POLARITY 1'1
+parameter \WIDTH 1
+connect \CLK \clk
+connect \D \q1
+connect \Q \q2
+end
+end
+---
+stimulus 0
 inputs clk d
 block 2 0.00000001
 0.0 0 1
 0.000000005 1 1
 end
-";
-    let traced = "items 4
+---
+items 4
 1 clk
 1 d
 1 q1
@@ -297,24 +199,55 @@ end
 0.000000010000000 0 1 1 0
 0.000000015000000 1 1 1 1
 end 4
-";
-    check_rows(
-        &rt,
-        &[Row {
-            design: &chain,
-            stimulus: edges,
-            status: 0,
-            out: traced,
-            log: "",
-        }],
-    )
-}
-
-#[test]
-fn rounds_follow_until_one_changes_nothing(rt: HostRuntime) -> Result<(), Fail> {
-    let rounds = rounds(rt.alloc())?;
-    let ring = ring(rt.alloc())?;
-    let traced = "items 5
+===
+x takes d at clk, g its inverse at clk, and y takes x where g rises, in a later round.
+---
+module \m
+wire input 1 \clk
+wire input 2 \d
+wire \g
+wire \x
+wire \y
+wire $n
+cell $add $a$n
+parameter \A_WIDTH 1
+parameter \B_WIDTH 1
+parameter \Y_WIDTH 1
+connect \A \g
+connect \B 1'1
+connect \Y $n
+end
+cell $dff $r\x
+parameter \CLK_POLARITY 1'1
+parameter \WIDTH 1
+connect \CLK \clk
+connect \D \d
+connect \Q \x
+end
+cell $dff $r\g
+parameter \CLK_POLARITY 1'1
+parameter \WIDTH 1
+connect \CLK \clk
+connect \D $n
+connect \Q \g
+end
+cell $dff $r\y
+parameter \CLK_POLARITY 1'1
+parameter \WIDTH 1
+connect \CLK \g
+connect \D \x
+connect \Q \y
+end
+end
+---
+stimulus 0
+inputs clk d
+block 1 1.0
+0.0 0 1
+0.5 1 1
+end
+---
+items 5
 1 clk
 1 d
 1 g
@@ -324,104 +257,111 @@ fn rounds_follow_until_one_changes_nothing(rt: HostRuntime) -> Result<(), Fail> 
 0.500000000000000 1 1 1 1 1
 end 2
 ";
-    check_rows(
-        &rt,
-        &[
-            Row {
-                design: &rounds,
-                stimulus: "stimulus 0\ninputs clk d\nblock 1 1.0\n0.0 0 1\n0.5 1 1\nend\n",
-                status: 0,
-                out: traced,
-                log: "",
-            },
-            Row {
-                design: &ring,
-                stimulus: "stimulus 0\ninputs clk\nblock 2 1.0\n0.0 0\n0.5 1\nend\n",
-                status: 6,
-                out: "items 3\n1 b\n1 clk\n1 t\n0.000000000000000 0 0 0\nunsettled 1\n",
-                log: "",
-            },
-        ],
-    )
+
+#[test]
+fn a_design_under_a_stimulus_is_traced(rt: HostRuntime) -> Result<(), Fail> {
+    for section in TRACES.split("===\n") {
+        let mut parts = section.split("---\n");
+        let shown = parts.next().ok_or("no title")?;
+        let design = parts.next().ok_or("no design")?;
+        let stimulus = parts.next().ok_or("no stimulus")?;
+        let traced = parts.next().ok_or("no trace")?;
+        let ended = called(&rt, WORDS, design, stimulus, NONE)?;
+        assert!(rt; ended.is(0, traced, ""), "{shown}");
+    }
+    let ended = called(&rt, WORDS, COUNTER_AS_WRITTEN, SIX, NONE)?;
+    assert!(rt; ended.is(0, COUNTED, ""));
+    let stimulus = "stimulus 0\ninputs clk\nblock 2 1.0\n0.0 0\n0.5 1\nend\n";
+    let ended = called(&rt, WORDS, RING, stimulus, NONE)?;
+    let traced = "items 3\n1 b\n1 clk\n1 t\n0.000000000000000 0 0 0\nunsettled 1\n";
+    assert!(rt; ended.is(6, traced, ""));
+    Ok(())
 }
+
+const REFUSED_DESIGN: &str = "refused 60 NotBuilt design\n";
 
 #[test]
 fn what_is_not_of_the_form_is_refused(rt: HostRuntime) -> Result<(), Fail> {
-    let alloc = rt.alloc();
-    let counter_by_add = counter(alloc, "$add")?;
-    let counter_by_sub = counter(alloc, "$sub")?;
-    let refused_design = "refused 60 NotBuilt design\n";
-    let refused_stimulus = "refused 60 NotBuilt stimulus\n";
+    let by_sub = counter_by_sub(rt.alloc())?;
     let two_blanks = "stimulus 0\ninputs clk\nblock  3 0.00000001\n0.0 0\n0.000000005 1\nend\n";
-    let rows = [
-        (counter_by_sub.as_str(), COUNTS, refused_design),
-        ("", COUNTS, refused_design),
-        (counter_by_add.as_str(), two_blanks, refused_stimulus),
-        (counter_by_add.as_str(), "", refused_stimulus),
-        (counter_by_sub.as_str(), two_blanks, refused_design),
-    ];
-    for (design, stimulus, log) in rows {
-        let ended = called(&rt, &WORDS, design, stimulus, NONE)?;
-        assert!(rt; ended.is(4, "", log), "{stimulus}");
+    for (design, stimulus) in [(by_sub.as_str(), SIX), ("", SIX), (&by_sub, two_blanks)] {
+        let ended = called(&rt, WORDS, design, stimulus, NONE)?;
+        assert!(rt; ended.is(4, "", REFUSED_DESIGN), "{design}");
+    }
+    for stimulus in [two_blanks, ""] {
+        let ended = called(&rt, WORDS, COUNTER, stimulus, NONE)?;
+        assert!(rt;
+            ended.is(4, "", "refused 60 NotBuilt stimulus\n"),
+            "{stimulus}"
+        );
     }
     Ok(())
 }
 
+/// Words that do not fit.
+const OTHER_WORDS: &str = "trace --design design --stimulus
+trace --design design --stimulus stimulus x
+trace --desing design --stimulus stimulus
+trace --design design --stimuli stimulus
+trace --stimulus stimulus --design design
+Trace --design design --stimulus stimulus
+serve --design design --stimulus stimulus";
+
 #[test]
 fn other_words_get_the_usage_line(rt: HostRuntime) -> Result<(), Fail> {
-    let alloc = rt.alloc();
-    let design = counter(alloc, "$add")?;
-    let rows: [&[&str]; 8] = [
-        &[],
-        &WORDS[..4],
-        &["trace", "--design", "design", "--stimulus", "stimulus", "x"],
-        &["trace", "--desing", "design", "--stimulus", "stimulus"],
-        &["trace", "--design", "design", "--stimuli", "stimulus"],
-        &["trace", "--stimulus", "stimulus", "--design", "design"],
-        &["Trace", "--design", "design", "--stimulus", "stimulus"],
-        &["serve", "--design", "design", "--stimulus", "stimulus"],
-    ];
-    for words in rows {
-        let ended = called(&rt, words, &design, COUNTS, NONE)?;
-        assert!(rt; ended.is(2, "", USAGE), "{words:?}");
+    for words in OTHER_WORDS.lines() {
+        let ended = called(&rt, words, COUNTER, SIX, NONE)?;
+        assert!(rt; ended.is(2, "", USAGE), "{words}");
     }
-    let missing = ["trace", "--design", "none", "--stimulus", "stimulus"];
-    let ended = called(&rt, &missing, &design, COUNTS, NONE)?;
+    let ended = called(&rt, "", COUNTER, SIX, NONE)?;
+    assert!(rt; ended.is(2, "", USAGE));
+    let missing = "trace --design none --stimulus stimulus";
+    let ended = called(&rt, missing, COUNTER, SIX, NONE)?;
     assert!(rt; ended.is(3, "", ""));
     let failing = Failing { log: 1, ..NONE };
-    let ended = called(&rt, &[], &design, COUNTS, failing)?;
+    let ended = called(&rt, "", COUNTER, SIX, failing)?;
     assert!(rt; ended.is(5, "", ""));
     Ok(())
 }
 
+/// Whether the design is the counter or refused, the reads, writes and log lines that fail, the status, and what is
+/// written and logged, with a bar for a line's end.
+const FAILURES: &str = "good 1 0 0 3 , 
+good 2 0 0 3 , 
+bad 1 0 0 3 , 
+bad 2 0 0 4 , refused 60 NotBuilt design|
+good 0 1 0 5 , 
+good 0 3 0 5 items 2|1 clk|, 
+bad 0 0 1 5 , 
+bad 0 0 3 5 , refused 60 Not";
+
 #[test]
 fn calls_that_fail_are_told(rt: HostRuntime) -> Result<(), Fail> {
-    let alloc = rt.alloc();
-    let counter_by_add = counter(alloc, "$add")?;
-    let counter_by_sub = counter(alloc, "$sub")?;
-    let (good, bad) = (counter_by_add.as_str(), counter_by_sub.as_str());
-    let rows = [
-        (Failing { read: 1, ..NONE }, good, 3, "", ""),
-        (Failing { read: 2, ..NONE }, good, 3, "", ""),
-        (Failing { read: 1, ..NONE }, bad, 3, "", ""),
-        (
-            Failing { read: 2, ..NONE },
-            bad,
-            4,
-            "",
-            "refused 60 NotBuilt design\n",
-        ),
-        (Failing { out: 1, ..NONE }, good, 5, "", ""),
-        (Failing { out: 3, ..NONE }, good, 5, "items 2\n1 clk\n", ""),
-        (Failing { log: 1, ..NONE }, good, 0, COUNTED, ""),
-        (Failing { log: 1, ..NONE }, bad, 5, "", ""),
-        (Failing { log: 3, ..NONE }, bad, 5, "", "refused 60 Not"),
-    ];
-    for (failing, design, status, out, log) in rows {
-        let ended = called(&rt, &WORDS, design, COUNTS, failing)?;
-        let (read, write, line) = (failing.read, failing.out, failing.log);
-        assert!(rt; ended.is(status, out, log), "{read} {write} {line}");
+    let bad = counter_by_sub(rt.alloc())?;
+    for row in FAILURES.lines() {
+        let mut words = row.splitn(6, ' ');
+        let design = if words.next() == Some("good") {
+            COUNTER
+        } else {
+            bad.as_str()
+        };
+        let failing = Failing {
+            read: number(words.next()),
+            out: number(words.next()),
+            log: number(words.next()),
+        };
+        let status = number(words.next());
+        let want = words.next().ok_or("no texts")?;
+        let ended = called(&rt, WORDS, design, SIX, failing)?;
+        assert!(rt; u64::from(ended.status) == status, "{row}");
+        let out = barred(rt.alloc(), ended.out.bytes())?;
+        let log = barred(rt.alloc(), ended.log.bytes())?;
+        let got = format!(in rt.alloc(); "{out}, {log}")?;
+        assert_eq!(rt; got.as_str(), want, "{row}");
     }
+    let failing = Failing { log: 1, ..NONE };
+    let ended = called(&rt, WORDS, COUNTER, SIX, failing)?;
+    assert!(rt; ended.is(0, COUNTED, ""));
     Ok(())
 }
 
@@ -468,19 +408,24 @@ fn files_over_the_limit_are_refused(rt: HostRuntime) -> Result<(), Fail> {
     let traced = "items 1\n1 clk\n0.000000000000000 1\nend 1\n";
     let design_is_long = "refused 50 FileTooLong design\n";
     let stimulus_is_long = "refused 50 FileTooLong stimulus\n";
-    let rows = [
-        (design.len() - 1, design_is_long, ""),
-        (design.len(), stimulus_is_long, ""),
-        (stimulus.len() - 1, stimulus_is_long, ""),
-        (stimulus.len(), "", traced),
+    let long = design.len().max(stimulus.len());
+    let limits = [
+        design.len().saturating_sub(1),
+        design.len(),
+        stimulus.len().saturating_sub(1),
+        stimulus.len(),
     ];
-    for (limit, line, text) in rows {
+    for limit in limits {
+        let (line, text) = if limit < design.len() {
+            (design_is_long, "")
+        } else if limit < long {
+            (stimulus_is_long, "")
+        } else {
+            ("", traced)
+        };
         let (outcome, out, log) = limited(alloc, design, stimulus, limit as u64)?;
-        assert_eq!(rt;
-            outcome.status(),
-            if line.is_empty() { 0 } else { 4 },
-            "{limit}"
-        );
+        let status = if line.is_empty() { 0 } else { 4 };
+        assert_eq!(rt; outcome.status(), status, "{limit}");
         assert!(rt; out.bytes() == text.as_bytes(), "{limit}");
         assert!(rt; log.bytes() == line.as_bytes(), "{limit}");
     }
