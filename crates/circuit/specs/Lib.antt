@@ -14,4 +14,3 @@ pub mod Store
 pub mod Built
 pub mod Choices
 pub mod Fault
-pub mod Worked

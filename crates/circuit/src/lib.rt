@@ -16,7 +16,6 @@ mod shape;
 mod signal;
 mod store;
 mod validity;
-mod worked;
 
 pub use built::{law_of_growth, law_of_order, law_of_parts, law_of_slots, law_of_validity};
 pub use cell::{Cell, Op};
@@ -34,7 +33,3 @@ pub use netlist::{By, Circuit, Drive, Net, Piece, Sig};
 pub use register::{Polarity, Reg, RegKind};
 pub use signal::sig_width;
 pub use store::{Store, start_regs};
-pub use worked::{
-    worked_arithmetic, worked_registers, worked_rounds, worked_runs, worked_selections,
-    worked_slots,
-};

@@ -1,7 +1,7 @@
 use Rattle.std.proofs.Common.{refl}
 use Rattle.circuit.specs.Output.{lowest_from}
 use Rattle.circuit.specs.Signal.{gathered}
-use Rattle.circuit.proofs.worked.worked_selections.Goals as goal
+use Rattle.worked_rows.proofs.rows.worked_selections.Goals as goal
 
 pub returns-clause-lowest : goal.returns-clause-lowest
 unfolding lowest_from

@@ -3,7 +3,7 @@ use Rattle.circuit.specs.Signal.{gathered, sig_number}
 use Rattle.circuit.specs.Valuation.{digit_within, numbers_from}
 use Rattle.circuit.specs.Next.{next_numbers, next_mems}
 use Rattle.circuit.specs.Rounds.{standing_after, settling}
-use Rattle.circuit.proofs.worked.worked_rounds.Goals as goal
+use Rattle.worked_rows.proofs.rows.worked_rounds.Goals as goal
 
 pub returns-clause-derived : goal.returns-clause-derived
 unfolding gathered sig_number digit_within numbers_from next_numbers next_mems settling standing_after

@@ -3,7 +3,7 @@ ghost use Rattle.std.specs.Prelude.{◌≡◌, [], ◌∷◌, ◌-◌, ◌*◌, 
 ghost use Rattle.sim_base.specs.BitValue.{bit_value};
 ghost use Rattle.circuit.specs.Next.{next_by};
 ghost use Rattle.circuit.specs.Rounds.{rounds_at, run_length};
-ghost use Rattle.circuit.specs.Worked.{binary, unary, selected, traced, nets_in_rounds, already_high, chained, derived_clock, restless, read_and_written, written_twice, watched, hit_at, at_edge};
+ghost use Rattle.worked_rows.specs.Worked.{binary, unary, selected, traced, nets_in_rounds, already_high, chained, derived_clock, restless, read_and_written, written_twice, watched, hit_at, at_edge};
 ghost use Rattle.circuit.specs.declared.cell.Op.TheVariants as op;
 ghost use Rattle.circuit.specs.declared.register.RegKind.TheVariants as kind;
 

@@ -5,7 +5,7 @@ use Rattle.circuit.specs.Next.{next_numbers, highest_write, next_rows, next_read
 use Rattle.sim_base.specs.Parts.{parts}
 use Rattle.circuit.specs.Rounds.{standing_after, settled_samples, settling}
 use Rattle.circuit.specs.Shown.{slot_number}
-use Rattle.circuit.proofs.worked.worked_runs.Goals as goal
+use Rattle.worked_rows.proofs.rows.worked_runs.Goals as goal
 
 pub returns-clause-already_high : goal.returns-clause-already_high
 unfolding gathered sig_number digit_within numbers_from next_numbers highest_write next_rows next_reads next_mems settling standing_after settled_samples parts slot_number

@@ -5,7 +5,7 @@ use Rattle.circuit.specs.Next.{next_numbers, highest_write, next_rows, next_read
 use Rattle.sim_base.specs.Parts.{parts}
 use Rattle.circuit.specs.Rounds.{standing_after, nets_after, settling}
 use Rattle.circuit.specs.Shown.{some_edge, slot_number}
-use Rattle.circuit.proofs.worked.worked_slots.Goals as goal
+use Rattle.worked_rows.proofs.rows.worked_slots.Goals as goal
 
 pub returns-clause-register : goal.returns-clause-register
 unfolding gathered sig_number digit_within numbers_from next_numbers highest_write next_rows next_reads next_mems settling standing_after parts nets_after some_edge slot_number
