@@ -133,3 +133,10 @@ samples_taken [] n = omega (arith, nothing n)
     nothing (suc n) = refl
 samples_taken (b ∷ bs) zero = omega arith
 samples_taken (b ∷ bs) (suc n) = omega (arith, samples_taken bs n)
+
+pub samples_more : (bs : List Block) (n : ℕ) (d : Block) → n < length bs → samples_in (take (n + 1) bs) ≡ samples_in (take n bs) + samples_of (get_or bs n d)
+samples_more [] n d lt = absurd (omega arith)
+samples_more (b ∷ bs) zero d lt = omega arith
+samples_more (b ∷ bs) (suc n) d lt =
+    let more : suc n + 1 ≡ suc (n + 1) = omega arith in
+    ap (λ m. samples_in (take m (b ∷ bs))) more ∙ ap (λ m. samples_of b + m) (samples_more bs n d (omega arith)) ∙ (let e : samples_of b + (samples_in (take n bs) + samples_of (get_or bs n d)) ≡ samples_of b + samples_in (take n bs) + samples_of (get_or bs n d) = omega arith in e)

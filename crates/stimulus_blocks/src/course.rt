@@ -1,10 +1,11 @@
 //! Blocks one behind another, and the samples that they give.
-ghost use Rattle.std.specs.Prelude.{◌≡◌, ℕ, ◌+◌, ◌^◌, ◌<◌, ◌≤◌, ◌++◌, [], ◌∷◌, IfOk, IsTrue, length, map, take, slice_index};
+ghost use Rattle.std.specs.Prelude.{◌≡◌, ℕ, ◌+◌, ◌^◌, ◌<◌, ◌≤◌, ◌++◌, [], ◌∷◌, IfOk, IfSome, length, map, take, slice_index};
 ghost use Rattle.sim_base.specs.TimeText.{largest_time};
 ghost use Rattle.sim_base.specs.Values.{numbers, widths};
 ghost use Rattle.stimulus_text.specs.Numbers.{number_of};
 ghost use Rattle.stimulus_blocks.specs.Blocks.{length_in, length_of, samples_in, samples_of, IsBlock};
-ghost use Rattle.stimulus_blocks.specs.Courses.{HasSample, input_widths, row_of, sample_count, samples_until};
+ghost use Rattle.stimulus_blocks.specs.Courses.{Course, HasSample, input_widths, row_of, sample_count, samples_until};
+ghost use Rattle.stimulus_blocks.specs.Standings.{IsPlace, Stands};
 
 use crate::block::Block;
 use sim_base::{Bits, NoMemory, Time};
@@ -23,16 +24,30 @@ struct Placed {
     block: Block,
 }
 
-/// Where a reader of samples stood last. It makes the samples behind that one cheap to find, and changes no answer.
+/// Where a sample stands: in which repeat of its block, and at which row.
+#[derive(Clone, Copy, Debug)]
+struct Standing {
+    sample: u64,
+    /// The place of its block.
+    block: usize,
+    repeat: u64,
+    row: usize,
+    /// When the repeat starts.
+    start: Time,
+}
+
+/// Where a reader of samples stood last. It makes the sample behind that one cheap to find, and changes no answer.
 #[derive(Clone, Copy, Debug)]
 pub struct Place {
-    block: usize,
+    last: Option<Standing>,
 }
 
 impl Place {
-    /// At the first sample.
-    pub fn first() -> Place {
-        Place { block: 0 }
+    /// Before the first sample.
+    pub fn first() -> Place
+        ensures { (s : Course) → IsPlace s result }
+    {
+        Place { last: None }
     }
 }
 
@@ -167,13 +182,6 @@ impl Stimulus {
         }
     }
 
-    /// Whether sample `k` is one of the block at a place.
-    fn has_sample(&self, place: usize, k: u64) -> bool
-        ensures { IsTrue result → HasSample self.now.blocks place k }
-    {
-        place < self.len() && self.first_of(place) <= k && k < self.first_behind(place)
-    }
-
     /// The place of the block of sample `k`, by halving.
     fn find(&self, k: u64) -> usize
         requires { k < sample_count self.now }
@@ -192,45 +200,91 @@ impl Stimulus {
         low
     }
 
-    /// The place of the block of sample `k`, which is looked for first at a place and behind it.
-    fn find_near(&self, near: usize, k: u64) -> usize
+    /// Where sample `k` stands.
+    fn find_row(&self, k: u64) -> Standing
         requires { k < sample_count self.now }
-        ensures { HasSample self.now.blocks result k }
+        ensures sample { result.sample ≡ k }
+        ensures stands { Stands self.now result }
     {
-        if self.has_sample(near, k) {
-            return near;
-        }
-        let next = near.wrapping_add(1);
-        if self.has_sample(next, k) {
-            return next;
-        }
-        self.find(k)
-    }
-
-    /// The time of sample `k`, which is one of the block at a place.
-    fn time_in(&self, place: usize, k: u64) -> Time
-        requires { HasSample self.now.blocks place k }
-        ensures { result ≡ (row_of self.now k).time }
-    {
-        let placed = &self.blocks[place];
+        let block = self.find(k);
+        let placed = &self.blocks[block];
         let rows = placed.block.rows.len() as u64;
         let at = k - placed.first;
-        let offset = placed.block.rows.offset((at % rows) as usize);
-        let before = u128::from(at / rows) * placed.block.period.femtoseconds();
-        Time::of(placed.start.femtoseconds() + (before + offset.femtoseconds())).unwrap()
+        let repeat = at / rows;
+        let before = u128::from(repeat) * placed.block.period.femtoseconds();
+        Standing {
+            sample: k,
+            block,
+            repeat,
+            row: (at % rows) as usize,
+            start: Time::of(placed.start.femtoseconds() + before).unwrap(),
+        }
     }
 
-    /// Writes the inputs of sample `k`, which is one of the block at a place.
-    fn put_in(&self, place: usize, k: u64, into: &mut [Bits])
-        requires place { HasSample self.now.blocks place k }
+    /// Where sample `k` stands, if it is the next one of the same block.
+    fn next_row(&self, at: Standing, k: u64) -> Option<Standing>
+        requires { Stands self.now at }
+        ensures sample { IfSome result (λ next. next.sample ≡ k) }
+        ensures stands { IfSome result (Stands self.now) }
+    {
+        let placed = &self.blocks[at.block];
+        let block = &placed.block;
+        let sample = at.sample + 1;
+        if k != sample {
+            return None;
+        }
+        let row = at.row + 1;
+        if row < block.rows.len() {
+            return Some(Standing { sample, row, ..at });
+        }
+        let repeat = at.repeat + 1;
+        if repeat == block.repeats {
+            return None;
+        }
+        let start = Time::of(at.start.femtoseconds() + block.period.femtoseconds()).unwrap();
+        Some(Standing {
+            sample,
+            block: at.block,
+            repeat,
+            row: 0,
+            start,
+        })
+    }
+
+    /// Where sample `k` stands, which is looked for first behind the one where a reader stood.
+    fn find_near(&self, place: Place, k: u64) -> Standing
+        requires there { k < sample_count self.now }
+        requires place { IsPlace self.now place }
+        ensures sample { result.sample ≡ k }
+        ensures stands { Stands self.now result }
+    {
+        if let Some(last) = place.last {
+            if let Some(next) = self.next_row(last, k) {
+                return next;
+            }
+        }
+        self.find_row(k)
+    }
+
+    /// The time of the sample that stands there.
+    fn time_at(&self, at: &Standing) -> Time
+        requires { Stands self.now at.now }
+        ensures { result ≡ (row_of self.now at.now.sample).time }
+    {
+        let placed = &self.blocks[at.block];
+        let offset = placed.block.rows.offset(at.row);
+        Time::of(at.start.femtoseconds() + offset.femtoseconds()).unwrap()
+    }
+
+    /// Writes the inputs of the sample that stands there.
+    fn put_at(&self, at: &Standing, into: &mut [Bits])
+        requires stands { Stands self.now at.now }
         requires room { widths into.old ≡ input_widths self.now }
         ensures widths { widths into.new ≡ widths into.old }
-        ensures inputs { numbers into.new ≡ (row_of self.now k).inputs }
+        ensures inputs { numbers into.new ≡ (row_of self.now at.now.sample).inputs }
     {
-        let placed = &self.blocks[place];
-        let rows = placed.block.rows.len() as u64;
-        let at = k - placed.first;
-        let row = placed.block.rows.values((at % rows) as usize);
+        let placed = &self.blocks[at.block];
+        let row = placed.block.rows.values(at.row);
         put_row(row, self.columns.as_slice(), into);
     }
 
@@ -239,7 +293,7 @@ impl Stimulus {
         requires { k < sample_count self.now }
         ensures { result ≡ (row_of self.now k).time }
     {
-        self.time_in(self.find(k), k)
+        self.time_at(&self.find_row(k))
     }
 
     /// Writes the inputs of sample `k`, in the order of the circuit's inputs, and gives its time.
@@ -250,23 +304,25 @@ impl Stimulus {
         ensures inputs { numbers into.new ≡ (row_of self.now k).inputs }
         ensures time { result ≡ (row_of self.now k).time }
     {
-        let place = self.find(k);
-        self.put_in(place, k, into);
-        self.time_in(place, k)
+        let at = self.find_row(k);
+        self.put_at(&at, into);
+        self.time_at(&at)
     }
 
-    /// The same, for a reader of samples one after another: the block is looked for first where the reader stood.
+    /// The same, for a reader of samples one after another, who keeps the place: the next sample is the next row.
     pub fn row_from(&self, place: &mut Place, k: u64, into: &mut [Bits]) -> Time
         requires there { k < sample_count self.now }
+        requires place { IsPlace self.now place.old }
         requires room { widths into.old ≡ input_widths self.now }
         ensures widths { widths into.new ≡ widths into.old }
         ensures inputs { numbers into.new ≡ (row_of self.now k).inputs }
         ensures time { result ≡ (row_of self.now k).time }
+        ensures place { IsPlace self.now place.new }
     {
-        let block = self.find_near(place.block, k);
-        place.block = block;
-        self.put_in(block, k, into);
-        self.time_in(block, k)
+        let at = self.find_near(*place, k);
+        place.last = Some(at);
+        self.put_at(&at, into);
+        self.time_at(&at)
     }
 
     /// How many samples are at or before a time, by halving.
