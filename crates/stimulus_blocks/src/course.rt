@@ -201,6 +201,7 @@ impl Stimulus {
     }
 
     /// Where sample `k` stands.
+    #[inline(never)]
     fn find_row(&self, k: u64) -> Standing
         requires { k < sample_count self.now }
         ensures sample { result.sample ≡ k }

@@ -1,5 +1,5 @@
 //! Values of bits, kept in as little memory as their text takes.
-ghost use Rattle.std.specs.Prelude.{◌≡◌, ◌^◌, ◌<◌, ◌≤◌, Some, None, Ok, Err, IfOk, length, nat_lt};
+ghost use Rattle.std.specs.Prelude.{◌≡◌, ◌^◌, ◌<◌, ◌≤◌, Some, None, Ok, Err, IfOk, length, nat_lt, unwrap_or};
 ghost use Rattle.std.specs.Char.{digit_value};
 ghost use Rattle.std.specs.Option.{option_map};
 ghost use Rattle.sim_base.specs.BitValue.{bit_value};
@@ -91,20 +91,30 @@ pub fn read_value(alloc: Global, width: u32, word: &[u8]) -> Result<Option<Value
 }
 
 /// Writes a value's number into bits that hold it.
+#[inline(always)]
 pub fn put_value(value: &Value, into: &mut Bits)
     requires { number_of value.now < 2 ^ into.old.width }
     ensures { into.new ≡ bit_value into.old.width (number_of value.now) }
 {
     match value {
         Value::Word(number) => put_word(*number, into),
-        Value::Digits(digits) => {
-            into.clear();
-            into.put_hexadecimal(digits.get().as_bytes());
-        }
+        Value::Digits(digits) => put_digits(digits, into),
     }
 }
 
+/// Writes the number of digits into bits that hold it.
+#[cold]
+#[inline(never)]
+fn put_digits(digits: &Boxed<Name>, into: &mut Bits)
+    requires { unwrap_or (hexadecimal_number digits.now) 0 < 2 ^ into.old.width }
+    ensures { into.new ≡ bit_value into.old.width (unwrap_or (hexadecimal_number digits.now) 0) }
+{
+    into.clear();
+    into.put_hexadecimal(digits.get().as_bytes());
+}
+
 /// Writes a number of 64 bits into bits that hold it.
+#[inline(always)]
 fn put_word(number: u64, into: &mut Bits)
     requires { number < 2 ^ into.old.width }
     ensures { into.new ≡ bit_value into.old.width number }
@@ -112,7 +122,17 @@ fn put_word(number: u64, into: &mut Bits)
     if into.width() <= 64 {
         into.put(number);
     } else {
-        into.clear();
-        into.put_field(0, 64, number);
+        put_low(number, into);
     }
+}
+
+/// Writes a number of 64 bits into more bits.
+#[cold]
+#[inline(never)]
+fn put_low(number: u64, into: &mut Bits)
+    requires { 64 < into.old.width }
+    ensures { into.new ≡ bit_value into.old.width number }
+{
+    into.clear();
+    into.put_field(0, 64, number);
 }

@@ -1,10 +1,10 @@
 use Rattle.std.proofs.Common.{◌∙◌, ap, arith}
 use Rattle.sim_base.specs.BitValue.{digit_after_copy}
 use Rattle.stimulus_text.proofs.Hexadecimal.{word_put, value_is}
-use Rattle.stimulus_text.proofs.value.put_word.Goals as goal
+use Rattle.stimulus_text.proofs.value.put_low.Goals as goal
 
-pub returns-else-width-le64 : goal.returns-else-width-le64
-returns-else-width-le64 c =
+pub returns : goal.returns
+returns c =
     value_is c.put_field.new.self c.args.into.now.width c.args.number
     (c.put_field.ensures.width ∙ ap (λ v. v.width) c.clear.ensures)
     (word_put c.args.number c.put_field.new.self.number (omega arith)
