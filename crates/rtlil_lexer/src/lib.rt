@@ -14,8 +14,6 @@ mod quoted;
 mod sound;
 mod spelling;
 mod strings;
-#[cfg(test)]
-mod tests;
 mod token;
 
 pub use constant::{Constant, WIDEST};

@@ -37,29 +37,3 @@ pub(crate) fn body_of(rest: &[u8]) -> Option<&[u8]>
         None => None,
     }
 }
-
-#[cfg(test)]
-mod tests {
-    use super::body_of;
-
-    #[test]
-    fn a_string_ends_at_its_first_quote_that_is_not_escaped(rt: HostRuntime) {
-        let cases: [(&[u8], Option<&[u8]>); 12] = [
-            (b"\"", Some(b"")),
-            (b"ab\" c", Some(b"ab")),
-            (b"a\"b\"", Some(b"a")),
-            (b"a\\\"b\"c", Some(b"a\\\"b")),
-            (b"a\\\\\"b\"", Some(b"a\\\\")),
-            (b"\\\\\\\"\"", Some(b"\\\\\\\"")),
-            (b"", None),
-            (b"ab", None),
-            (b"ab\\", None),
-            (b"ab\\\"", None),
-            (b"ab\n\"", None),
-            (b"ab\\\n\"", None),
-        ];
-        for (rest, want) in cases {
-            assert_eq!(rt; body_of(rest), want);
-        }
-    }
-}

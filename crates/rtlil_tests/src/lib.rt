@@ -1,7 +1,9 @@
-//! Tests of `rtlil_tree`, which use its public items alone.
+//! Tests of `rtlil_lexer` and `rtlil_tree`, which use their public items alone.
 #![tactic(auto)]
 
 #[cfg(test)]
 mod attributes;
+#[cfg(test)]
+mod tokens;
 #[cfg(test)]
 mod trees;

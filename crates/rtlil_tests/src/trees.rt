@@ -5,6 +5,7 @@ use rtlil_tree::{
 };
 use sim_base::Bits;
 use std::alloc::Global;
+use std::process::Abort;
 use std::str::from_utf8;
 use std::test::Fail;
 
@@ -312,243 +313,132 @@ fn told(alloc: Global, text: &[u8]) -> Result<String, Fail> {
     Ok(out)
 }
 
-#[test]
-fn each_rule_is_read(rt: HostRuntime) -> Result<(), Fail> {
-    let cases: [(&[u8], &str); 13] = [
-        (b"", ""),
-        (b"autoidx 5\n\nmodule \\m\n\nend\n", "module \\m{}"),
-        (
-            b"module \\m\nend\nmodule $n\nend",
-            "module \\m{}module $n{}",
-        ),
-        (
-            b"module \\m\nparameter \\a\nparameter signed \\b 3\nparameter real \\c \"1.5\"\nend\n",
-            "module \\m{parameter \\a;parameter signed \\b=3;parameter real \\c=<1.5>;}",
-        ),
-        (
-            b"module \\m\nwire width 4 offset -3 input 1 output 2 inout 3 upto signed \\w\nwire \\v\nend\n",
-            "module \\m{wire \\w 4 -3 input 1 output 2 inout 3 upto signed;wire \\v 1 0;}",
-        ),
-        (
-            b"module \\m\nmemory width 8 size 16 offset 4 \\a\nmemory \\b\nend\n",
-            "module \\m{memory \\a 8 16 4;memory \\b 1 0 0;}",
-        ),
-        (
-            b"module \\m\ncell $add $a\nparameter \\W 8\n\nparameter signed \\B -1\nparameter real \\R \"2\"\nconnect \\A \\w [3:0]\nconnect \\B { \\w 2'10 }\nend\nend\n",
-            "module \\m{cell $add $a \\W=8 signed \\B=-1 real \\R=<2> \\A~\\w[3:0] \\B~{ \\w '10 };}",
-        ),
-        (
-            b"module \\m\nconnect { } { \\a [1] { 1'x } [0] } [7:4] [2] [0:1]\nend\n",
-            "module \\m{connect { }={ \\a[1:1] { 'x }[0:0] }[7:4][2:2][0:1];}",
-        ),
-        (
-            b"module \\m\nconnect \\a [5]{\"b\"-7}\nend\n",
-            "module \\m{connect \\a[5:5]={ <b> -7 };}",
-        ),
-        (
-            b"module \\m\nparameter \\a 4'1x-z\nparameter \\b 4'-\nparameter \\c 3'\nparameter \\d 4'10\nparameter \\e 0'\nend\n",
-            "module \\m{parameter \\a='1x-x;parameter \\b='----;parameter \\c='xxx;parameter \\d='0010;parameter \\e=';}",
-        ),
-        (
-            b"module \\m\nprocess $p\nassign \\a \\b\n\nswitch \\s\n\ncase 1'0 , 1'1\nassign \\c 1\nswitch \\t\ncase\nend\nassign \\d 2\ncase\nend\nassign \\e 3\nsync posedge \\k\nupdate \\q \\d\n\nsync always\nsync init\nsync negedge \\k\nsync edge \\k\nsync high \\k\nsync low \\k\nupdate \\q 1\nupdate \\r 2\nend\nend\n",
-            "module \\m{process 2:1 $p(\\a=\\b;switch \\s case '0 '1(\\c=1;switch \\t case();\\d=2;) case();\\e=3;) sync posedge \\k(\\q=\\d;) sync always() sync init() sync negedge \\k() sync edge \\k() sync high \\k() sync low \\k(\\q=1;\\r=2;);}",
-        ),
-        (
-            b"module \\m\n  process $p\n  end\nprocess $q\nsync init\nend\nend\n",
-            "module \\m{process 2:3 $p();process 4:1 $q() sync init();}",
-        ),
-        (
-            b"module \\m\nprocess $p\nswitch 1\nend\nend\nend\n",
-            "module \\m{process 2:1 $p(switch 1;);}",
-        ),
-    ];
-    for (text, want) in cases {
-        assert_eq!(rt; told(rt.alloc(), text)?.as_str(), want);
+/// A text between each bar that begins a line and the arrow, and its tree.
+const TREES: &str = " => 
+|autoidx 5\n\nmodule \\m\n\nend\n => module \\m{}
+|module \\m\nend\nmodule $n\nend => module \\m{}module $n{}
+|module \\m\nparameter \\a\nparameter signed \\b 3\nparameter real \\c \"1.5\"\nend\n => module \\m{parameter \\a;parameter signed \\b=3;parameter real \\c=<1.5>;}
+|module \\m\nwire width 4 offset -3 input 1 output 2 inout 3 upto signed \\w\nwire \\v\nend\n => module \\m{wire \\w 4 -3 input 1 output 2 inout 3 upto signed;wire \\v 1 0;}
+|module \\m\nmemory width 8 size 16 offset 4 \\a\nmemory \\b\nend\n => module \\m{memory \\a 8 16 4;memory \\b 1 0 0;}
+|module \\m\ncell $add $a\nparameter \\W 8\n\nparameter signed \\B -1\nparameter real \\R \"2\"\nconnect \\A \\w [3:0]\nconnect \\B { \\w 2'10 }\nend\nend\n => module \\m{cell $add $a \\W=8 signed \\B=-1 real \\R=<2> \\A~\\w[3:0] \\B~{ \\w '10 };}
+|module \\m\nconnect { } { \\a [1] { 1'x } [0] } [7:4] [2] [0:1]\nend\n => module \\m{connect { }={ \\a[1:1] { 'x }[0:0] }[7:4][2:2][0:1];}
+|module \\m\nconnect \\a [5]{\"b\"-7}\nend\n => module \\m{connect \\a[5:5]={ <b> -7 };}
+|module \\m\nparameter \\a 4'1x-z\nparameter \\b 4'-\nparameter \\c 3'\nparameter \\d 4'10\nparameter \\e 0'\nend\n => module \\m{parameter \\a='1x-x;parameter \\b='----;parameter \\c='xxx;parameter \\d='0010;parameter \\e=';}
+|module \\m\nprocess $p\nassign \\a \\b\n\nswitch \\s\n\ncase 1'0 , 1'1\nassign \\c 1\nswitch \\t\ncase\nend\nassign \\d 2\ncase\nend\nassign \\e 3\nsync posedge \\k\nupdate \\q \\d\n\nsync always\nsync init\nsync negedge \\k\nsync edge \\k\nsync high \\k\nsync low \\k\nupdate \\q 1\nupdate \\r 2\nend\nend\n => module \\m{process 2:1 $p(\\a=\\b;switch \\s case '0 '1(\\c=1;switch \\t case();\\d=2;) case();\\e=3;) sync posedge \\k(\\q=\\d;) sync always() sync init() sync negedge \\k() sync edge \\k() sync high \\k() sync low \\k(\\q=1;\\r=2;);}
+|module \\m\n  process $p\n  end\nprocess $q\nsync init\nend\nend\n => module \\m{process 2:3 $p();process 4:1 $q() sync init();}
+|module \\m\nprocess $p\nswitch 1\nend\nend\nend\n => module \\m{process 2:1 $p(switch 1;);}
+|attribute \\a 1\n\nattribute \\b 2'1\nmodule \\m\nattribute \\c \"x\"\nwire \\w\nattribute \\d 1\nmemory \\y\nattribute \\e 1\ncell \\t \\c\nend\nwire \\v\nend\n => @\\a=1 @\\b='01 module \\m{@\\c=<x> wire \\w 1 0;@\\d=1 memory \\y 1 0 0;@\\e=1 cell \\t \\c;wire \\v 1 0;}
+|attribute \\a 1\nattribute \\a 2\nmodule \\m\nend\n => @\\a=1 @\\a=2 module \\m{}
+|attribute \\a 1\nautoidx 1\nmodule \\m\nattribute \\b 1\nparameter \\p\nwire \\w\nattribute \\c 1\nconnect \\w \\w\nwire \\v\nattribute \\d 1\nprocess \\q\nend\nwire \\u\nattribute \\e 1\nend\nmodule \\n\nend\n => module \\m{parameter \\p;wire \\w 1 0;connect \\w=\\w;wire \\v 1 0;process 11:1 \\q();wire \\u 1 0;}module \\n{}
+|module \\m\ncell \\t \\c\nattribute \\a 1\nconnect \\p 1\nattribute \\b 1\nend\nwire \\w\nprocess $p\nattribute \\c 1\nassign 1 2\nswitch 1\nattribute \\d 1\ncase 1\nattribute \\e 1\nend\nend\nwire \\v\nend\n => module \\m{cell \\t \\c \\p~1;wire \\w 1 0;process 8:1 $p(1=2;switch 1 case 1(););wire \\v 1 0;}
+|module \\m\nwire width 4 width 7 offset 1 offset 2 input 5 input 6 output 7 output 8 inout 9 inout 10 upto upto \\v\nend\n => module \\m{wire \\v 7 2 input 6 output 8 inout 10 upto;}
+|module \\m\nmemory size 1 size 2 width 3 width 0 offset 5 offset -6 \\b\nend\n => module \\m{memory \\b 0 2 -6;}";
+
+/// Texts, and the fault and the place of the first token that fits no rule.
+const FAULTS: &str = "module \\m\nfoo => Syntax 2 1
+|foo\n => Syntax 1 1
+|end\n => Syntax 1 1
+|module\n => Syntax 1 7
+|module 1\n => Syntax 1 8
+|module \\m x\n => Syntax 1 11
+|module \\m => Syntax 1 10
+|module \\m\n => Syntax 1 10
+|module \\m\n\n => Syntax 2 1
+|module \\m\nend x\n => Syntax 2 5
+|module \\m\nmodule \\n\n => Syntax 2 1
+|autoidx\n => Syntax 1 8
+|autoidx 1'1\n => Syntax 1 9
+|autoidx 1 2\n => Syntax 1 11
+|attribute 1\n => Syntax 1 11
+|attribute \\a\n => Syntax 1 13
+|attribute \\a \\b\n => Syntax 1 14
+|attribute \\a 1 2\n => Syntax 1 16
+|module \\m\nparameter\n => Syntax 2 10
+|module \\m\nparameter signed\n => Syntax 2 17
+|module \\m\nparameter \\p \\q\n => Syntax 2 14
+|module \\m\nparameter \\p 1 2\n => Syntax 2 16
+|module \\m\nwire\n => Syntax 2 5
+|module \\m\nwire width \\w\n => Syntax 2 12
+|module \\m\nwire width -1 \\w\n => Syntax 2 12
+|module \\m\nwire offset \\w\n => Syntax 2 13
+|module \\m\nwire input \\w\n => Syntax 2 12
+|module \\m\nwire size 1 \\w\n => Syntax 2 6
+|module \\m\nwire \\w 1\n => Syntax 2 9
+|module \\m\nmemory size\n => Syntax 2 12
+|module \\m\nmemory width -1 \\w\n => Syntax 2 14
+|module \\m\nmemory upto \\w\n => Syntax 2 8
+|module \\m\ncell \\t\n => Syntax 2 8
+|module \\m\ncell \\t \\c 1\n => Syntax 2 12
+|module \\m\ncell \\t \\c\nwire \\w\n => Syntax 3 1
+|module \\m\ncell \\t \\c\nparameter \\p\n => Syntax 3 13
+|module \\m\ncell \\t \\c\nconnect 1\n => Syntax 3 9
+|module \\m\ncell \\t \\c\nconnect \\p\n => Syntax 3 11
+|module \\m\ncell \\t \\c\nend\n => Syntax 3 4
+|module \\m\nconnect 1\n => Syntax 2 10
+|module \\m\nconnect 1 2 3\n => Syntax 2 13
+|module \\m\nconnect { 1\n => Syntax 2 12
+|module \\m\nconnect [1] 1\n => Syntax 2 9
+|module \\m\nconnect \\a [ ] 1\n => Syntax 2 14
+|module \\m\nconnect \\a [-1] 1\n => Syntax 2 13
+|module \\m\nconnect \\a [1:-2] 1\n => Syntax 2 15
+|module \\m\nconnect \\a [1:2:3] 1\n => Syntax 2 16
+|module \\m\nprocess\n => Syntax 2 8
+|module \\m\nprocess $p\nmemwr\n => Syntax 3 1
+|module \\m\nprocess $p\nend 1\n => Syntax 3 5
+|module \\m\nprocess $p\nassign 1\n => Syntax 3 9
+|module \\m\nprocess $p\nswitch 1 2\n => Syntax 3 10
+|module \\m\nprocess $p\nswitch 1\nassign 1 1\n => Syntax 4 1
+|module \\m\nprocess $p\nswitch 1\ncase 1 2\n => Syntax 4 8
+|module \\m\nprocess $p\nswitch 1\ncase 1 ,\n => Syntax 4 9
+|module \\m\nprocess $p\nswitch 1\ncase\nsync init\n => Syntax 5 1
+|module \\m\nprocess $p\nsync global\n => Process 3 6
+|module \\m\nprocess $p\nsync posedge\n => Syntax 3 13
+|module \\m\nprocess $p\nsync always 1\n => Syntax 3 13
+|module \\m\nprocess $p\nsync init\nmemwr \\m 1 1 1\n => Process 4 1
+|module \\m\nprocess $p\nsync init\nupdate 1 2 3\n => Syntax 4 12
+|module \\m\nprocess $p\nsync init\nassign 1 1\n => Syntax 4 1
+|attribute\n => Syntax 1 10
+|module \\m\nparameter real\n => Syntax 2 15
+|module \\m\nwire output \\w\n => Syntax 2 13
+|module \\m\nwire inout \\w\n => Syntax 2 12
+|module \\m\nmemory\n => Syntax 2 7
+|module \\m\nmemory offset \\m\n => Syntax 2 15
+|module \\m\nmemory \\m 1\n => Syntax 2 11
+|module \\m\ncell\n => Syntax 2 5
+|module \\m\ncell \\t \\c\n => Syntax 2 11
+|module \\m\ncell \\t \\c\nparameter 1\n => Syntax 3 11
+|module \\m\ncell \\t \\c\nparameter \\p 1 2\n => Syntax 3 16
+|module \\m\ncell \\t \\c\nconnect \\p 1 2\n => Syntax 3 14
+|module \\m\ncell \\t \\c\nend x\n => Syntax 3 5
+|module \\m\nconnect\n => Syntax 2 8
+|module \\m\nconnect \\a [1 1\n => Syntax 2 15
+|module \\m\nconnect \\a [1:\n => Syntax 2 15
+|module \\m\nprocess $p 1\n => Syntax 2 12
+|module \\m\nprocess $p\n => Syntax 2 11
+|module \\m\nprocess $p\nassign\n => Syntax 3 7
+|module \\m\nprocess $p\nassign 1 1 1\n => Syntax 3 12
+|module \\m\nprocess $p\nswitch\n => Syntax 3 7
+|module \\m\nprocess $p\nswitch 1\nend x\n => Syntax 4 5
+|module \\m\nprocess $p\nsync\n => Syntax 3 5
+|module \\m\nprocess $p\nsync foo\n => Syntax 3 6
+|module \\m\nprocess $p\nsync posedge 1 2\n => Syntax 3 16
+|module \\m\nprocess $p\nsync init\nupdate\n => Syntax 4 7
+|module \\m\nprocess $p\nsync init\nupdate 1\n => Syntax 4 9";
+
+fn check(rt: &impl Abort, alloc: Global, rows: &str) -> Result<(), Fail> {
+    for row in rows.split("\n|") {
+        let (text, want) = row.split_once(" => ").unwrap_or((row, ""));
+        assert_eq!(rt; told(alloc, text.as_bytes())?.as_str(), want, "{text}");
     }
     Ok(())
 }
 
 #[test]
-fn an_attribute_belongs_to_what_comes_next(rt: HostRuntime) -> Result<(), Fail> {
-    let cases: [(&[u8], &str); 4] = [
-        (
-            b"attribute \\a 1\n\nattribute \\b 2'1\nmodule \\m\nattribute \\c \"x\"\nwire \\w\nattribute \\d 1\nmemory \\y\nattribute \\e 1\ncell \\t \\c\nend\nwire \\v\nend\n",
-            "@\\a=1 @\\b='01 module \\m{@\\c=<x> wire \\w 1 0;@\\d=1 memory \\y 1 0 0;@\\e=1 cell \\t \\c;wire \\v 1 0;}",
-        ),
-        (
-            b"attribute \\a 1\nattribute \\a 2\nmodule \\m\nend\n",
-            "@\\a=1 @\\a=2 module \\m{}",
-        ),
-        (
-            b"attribute \\a 1\nautoidx 1\nmodule \\m\nattribute \\b 1\nparameter \\p\nwire \\w\nattribute \\c 1\nconnect \\w \\w\nwire \\v\nattribute \\d 1\nprocess \\q\nend\nwire \\u\nattribute \\e 1\nend\nmodule \\n\nend\n",
-            "module \\m{parameter \\p;wire \\w 1 0;connect \\w=\\w;wire \\v 1 0;process 11:1 \\q();wire \\u 1 0;}module \\n{}",
-        ),
-        (
-            b"module \\m\ncell \\t \\c\nattribute \\a 1\nconnect \\p 1\nattribute \\b 1\nend\nwire \\w\nprocess $p\nattribute \\c 1\nassign 1 2\nswitch 1\nattribute \\d 1\ncase 1\nattribute \\e 1\nend\nend\nwire \\v\nend\n",
-            "module \\m{cell \\t \\c \\p~1;wire \\w 1 0;process 8:1 $p(1=2;switch 1 case 1(););wire \\v 1 0;}",
-        ),
-    ];
-    for (text, want) in cases {
-        assert_eq!(rt; told(rt.alloc(), text)?.as_str(), want);
-    }
-    Ok(())
-}
-
-#[test]
-fn the_last_of_two_options_counts(rt: HostRuntime) -> Result<(), Fail> {
-    let cases: [(&[u8], &str); 2] = [
-        (
-            b"module \\m\nwire width 4 width 7 offset 1 offset 2 input 5 input 6 output 7 output 8 inout 9 inout 10 upto upto \\v\nend\n",
-            "module \\m{wire \\v 7 2 input 6 output 8 inout 10 upto;}",
-        ),
-        (
-            b"module \\m\nmemory size 1 size 2 width 3 width 0 offset 5 offset -6 \\b\nend\n",
-            "module \\m{memory \\b 0 2 -6;}",
-        ),
-    ];
-    for (text, want) in cases {
-        assert_eq!(rt; told(rt.alloc(), text)?.as_str(), want);
-    }
-    Ok(())
-}
-
-#[test]
-fn the_first_token_that_fits_no_rule_is_answered(rt: HostRuntime) -> Result<(), Fail> {
-    let cases: [(&[u8], &str); 62] = [
-        (b"module \\m\nfoo", "Syntax 2 1"),
-        (b"foo\n", "Syntax 1 1"),
-        (b"end\n", "Syntax 1 1"),
-        (b"module\n", "Syntax 1 7"),
-        (b"module 1\n", "Syntax 1 8"),
-        (b"module \\m x\n", "Syntax 1 11"),
-        (b"module \\m", "Syntax 1 10"),
-        (b"module \\m\n", "Syntax 1 10"),
-        (b"module \\m\n\n", "Syntax 2 1"),
-        (b"module \\m\nend x\n", "Syntax 2 5"),
-        (b"module \\m\nmodule \\n\n", "Syntax 2 1"),
-        (b"autoidx\n", "Syntax 1 8"),
-        (b"autoidx 1'1\n", "Syntax 1 9"),
-        (b"autoidx 1 2\n", "Syntax 1 11"),
-        (b"attribute 1\n", "Syntax 1 11"),
-        (b"attribute \\a\n", "Syntax 1 13"),
-        (b"attribute \\a \\b\n", "Syntax 1 14"),
-        (b"attribute \\a 1 2\n", "Syntax 1 16"),
-        (b"module \\m\nparameter\n", "Syntax 2 10"),
-        (b"module \\m\nparameter signed\n", "Syntax 2 17"),
-        (b"module \\m\nparameter \\p \\q\n", "Syntax 2 14"),
-        (b"module \\m\nparameter \\p 1 2\n", "Syntax 2 16"),
-        (b"module \\m\nwire\n", "Syntax 2 5"),
-        (b"module \\m\nwire width \\w\n", "Syntax 2 12"),
-        (b"module \\m\nwire width -1 \\w\n", "Syntax 2 12"),
-        (b"module \\m\nwire offset \\w\n", "Syntax 2 13"),
-        (b"module \\m\nwire input \\w\n", "Syntax 2 12"),
-        (b"module \\m\nwire size 1 \\w\n", "Syntax 2 6"),
-        (b"module \\m\nwire \\w 1\n", "Syntax 2 9"),
-        (b"module \\m\nmemory size\n", "Syntax 2 12"),
-        (b"module \\m\nmemory width -1 \\w\n", "Syntax 2 14"),
-        (b"module \\m\nmemory upto \\w\n", "Syntax 2 8"),
-        (b"module \\m\ncell \\t\n", "Syntax 2 8"),
-        (b"module \\m\ncell \\t \\c 1\n", "Syntax 2 12"),
-        (b"module \\m\ncell \\t \\c\nwire \\w\n", "Syntax 3 1"),
-        (b"module \\m\ncell \\t \\c\nparameter \\p\n", "Syntax 3 13"),
-        (b"module \\m\ncell \\t \\c\nconnect 1\n", "Syntax 3 9"),
-        (b"module \\m\ncell \\t \\c\nconnect \\p\n", "Syntax 3 11"),
-        (b"module \\m\ncell \\t \\c\nend\n", "Syntax 3 4"),
-        (b"module \\m\nconnect 1\n", "Syntax 2 10"),
-        (b"module \\m\nconnect 1 2 3\n", "Syntax 2 13"),
-        (b"module \\m\nconnect { 1\n", "Syntax 2 12"),
-        (b"module \\m\nconnect [1] 1\n", "Syntax 2 9"),
-        (b"module \\m\nconnect \\a [ ] 1\n", "Syntax 2 14"),
-        (b"module \\m\nconnect \\a [-1] 1\n", "Syntax 2 13"),
-        (b"module \\m\nconnect \\a [1:-2] 1\n", "Syntax 2 15"),
-        (b"module \\m\nconnect \\a [1:2:3] 1\n", "Syntax 2 16"),
-        (b"module \\m\nprocess\n", "Syntax 2 8"),
-        (b"module \\m\nprocess $p\nmemwr\n", "Syntax 3 1"),
-        (b"module \\m\nprocess $p\nend 1\n", "Syntax 3 5"),
-        (b"module \\m\nprocess $p\nassign 1\n", "Syntax 3 9"),
-        (b"module \\m\nprocess $p\nswitch 1 2\n", "Syntax 3 10"),
-        (
-            b"module \\m\nprocess $p\nswitch 1\nassign 1 1\n",
-            "Syntax 4 1",
-        ),
-        (
-            b"module \\m\nprocess $p\nswitch 1\ncase 1 2\n",
-            "Syntax 4 8",
-        ),
-        (
-            b"module \\m\nprocess $p\nswitch 1\ncase 1 ,\n",
-            "Syntax 4 9",
-        ),
-        (
-            b"module \\m\nprocess $p\nswitch 1\ncase\nsync init\n",
-            "Syntax 5 1",
-        ),
-        (b"module \\m\nprocess $p\nsync global\n", "Process 3 6"),
-        (b"module \\m\nprocess $p\nsync posedge\n", "Syntax 3 13"),
-        (b"module \\m\nprocess $p\nsync always 1\n", "Syntax 3 13"),
-        (
-            b"module \\m\nprocess $p\nsync init\nmemwr \\m 1 1 1\n",
-            "Process 4 1",
-        ),
-        (
-            b"module \\m\nprocess $p\nsync init\nupdate 1 2 3\n",
-            "Syntax 4 12",
-        ),
-        (
-            b"module \\m\nprocess $p\nsync init\nassign 1 1\n",
-            "Syntax 4 1",
-        ),
-    ];
-    for (text, want) in cases {
-        assert_eq!(rt; told(rt.alloc(), text)?.as_str(), want);
-    }
-    Ok(())
-}
-
-#[test]
-fn each_part_of_a_rule_has_to_be_there(rt: HostRuntime) -> Result<(), Fail> {
-    let cases: [(&[u8], &str); 27] = [
-        (b"attribute\n", "Syntax 1 10"),
-        (b"module \\m\nparameter real\n", "Syntax 2 15"),
-        (b"module \\m\nwire output \\w\n", "Syntax 2 13"),
-        (b"module \\m\nwire inout \\w\n", "Syntax 2 12"),
-        (b"module \\m\nmemory\n", "Syntax 2 7"),
-        (b"module \\m\nmemory offset \\m\n", "Syntax 2 15"),
-        (b"module \\m\nmemory \\m 1\n", "Syntax 2 11"),
-        (b"module \\m\ncell\n", "Syntax 2 5"),
-        (b"module \\m\ncell \\t \\c\n", "Syntax 2 11"),
-        (b"module \\m\ncell \\t \\c\nparameter 1\n", "Syntax 3 11"),
-        (
-            b"module \\m\ncell \\t \\c\nparameter \\p 1 2\n",
-            "Syntax 3 16",
-        ),
-        (
-            b"module \\m\ncell \\t \\c\nconnect \\p 1 2\n",
-            "Syntax 3 14",
-        ),
-        (b"module \\m\ncell \\t \\c\nend x\n", "Syntax 3 5"),
-        (b"module \\m\nconnect\n", "Syntax 2 8"),
-        (b"module \\m\nconnect \\a [1 1\n", "Syntax 2 15"),
-        (b"module \\m\nconnect \\a [1:\n", "Syntax 2 15"),
-        (b"module \\m\nprocess $p 1\n", "Syntax 2 12"),
-        (b"module \\m\nprocess $p\n", "Syntax 2 11"),
-        (b"module \\m\nprocess $p\nassign\n", "Syntax 3 7"),
-        (b"module \\m\nprocess $p\nassign 1 1 1\n", "Syntax 3 12"),
-        (b"module \\m\nprocess $p\nswitch\n", "Syntax 3 7"),
-        (b"module \\m\nprocess $p\nswitch 1\nend x\n", "Syntax 4 5"),
-        (b"module \\m\nprocess $p\nsync\n", "Syntax 3 5"),
-        (b"module \\m\nprocess $p\nsync foo\n", "Syntax 3 6"),
-        (b"module \\m\nprocess $p\nsync posedge 1 2\n", "Syntax 3 16"),
-        (b"module \\m\nprocess $p\nsync init\nupdate\n", "Syntax 4 7"),
-        (
-            b"module \\m\nprocess $p\nsync init\nupdate 1\n",
-            "Syntax 4 9",
-        ),
-    ];
-    for (text, want) in cases {
-        assert_eq!(rt; told(rt.alloc(), text)?.as_str(), want);
-    }
-    Ok(())
+fn each_rule_is_read_and_the_first_token_that_fits_none_is_told(
+    rt: HostRuntime,
+) -> Result<(), Fail> {
+    check(&rt, rt.alloc(), TREES)?;
+    check(&rt, rt.alloc(), FAULTS)
 }
 
 /// A text with so many braces open at once.
