@@ -13,7 +13,7 @@ use Rattle.circuit.specs.Next.{all_marked, has_edge, next_row, next_rows, highes
 use Rattle.circuit.specs.State.{is_inside}
 use Rattle.circuit.specs.declared.memory.Mem.{Mem}
 use Rattle.circuit.specs.declared.memory.WritePort.{WritePort}
-use Rattle.memory_cells.specs.Ports.{place_of, place_written, renewed_rows}
+use Rattle.memory_cells.specs.Ports.{place_of_address, place_written, renewed_rows}
 use Rattle.memory_cells.proofs.RowAfter.{one, written_cons, written_nil, unwrap_or_else, row_after_bit, row_after_below}
 use Rattle.memory_cells.proofs.Told.{same_lists, told_set, told_none, told_one}
 
@@ -100,10 +100,10 @@ any_more test (y ∷ ys) x = ap (λ b. test y || b) (any_more test ys x) ∙ ass
 
 -- a port writes to a row, or to none
 pub data Where (m : Mem) (edge : Bool) (address : ℕ) : Type 0 where
-  at : (place : ℕ) → (if edge then place_of m address else None) ≡ Some place → place < m.size → edge ≡ true → address ≡ place + m.offset → Where m edge address
-  nowhere : (if edge then place_of m address else None) ≡ None → ((i : ℕ) → i < m.size → (edge && eqb address (i + m.offset)) ≡ false) → Where m edge address
+  at : (place : ℕ) → (if edge then place_of_address m address else None) ≡ Some place → place < m.size → edge ≡ true → address ≡ place + m.offset → Where m edge address
+  nowhere : (if edge then place_of_address m address else None) ≡ None → ((i : ℕ) → i < m.size → (edge && eqb address (i + m.offset)) ≡ false) → Where m edge address
 
-outside : (m : Mem) (address : ℕ) → is_inside m address ≡ false → place_of m address ≡ None
+outside : (m : Mem) (address : ℕ) → is_inside m address ≡ false → place_of_address m address ≡ None
 outside m address e = cond-false (is_inside m address) (Some (address - m.offset)) None e
 
 where_is : (m : Mem) (edge : Bool) (address : ℕ) → Where m edge address

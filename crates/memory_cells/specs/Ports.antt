@@ -42,8 +42,8 @@ pub record IsMemoryOf (before now : List BitValue) (m : Mem) : Type 0 where
   pub writes : All (IsWritePortOf before now m) m.writes
 
 -- the place of the row that an address names, if it is inside the memory
-abbrev pub place_of : Mem → ℕ → Option ℕ
-place_of m address = if is_inside m address then Some (address - m.offset) else None
+abbrev pub place_of_address : Mem → ℕ → Option ℕ
+place_of_address m address = if is_inside m address then Some (address - m.offset) else None
 
 abbrev pub is_place : Option ℕ → ℕ → Bool
 is_place None place = false
@@ -59,7 +59,7 @@ row_by writes mask word own width = if writes then gathered (masked_digit mask w
 
 -- the place of the row to which a port writes
 abbrev pub place_written : Digits → Digits → Mem → WritePort → Option ℕ
-place_written before now m p = if has_edge p.rising before now p.clk then place_of m (sig_number now p.addr) else None
+place_written before now m p = if has_edge p.rising before now p.clk then place_of_address m (sig_number now p.addr) else None
 
 -- the rows with what all ports write to the one at a place, if there is one
 abbrev pub renewed_rows : Digits → Digits → Mem → Option ℕ → List ℕ → List ℕ

@@ -3,17 +3,17 @@ ghost use Rattle.std.specs.Prelude.{◌≡◌, ◌+◌, ◌-◌, ◌^◌, ◌<�
 ghost use Rattle.circuit.specs.Signal.{sig_number, sig_width};
 ghost use Rattle.circuit.specs.Valid.{widest};
 ghost use Rattle.signal_words.specs.Values.{AreInside, digits_in};
-ghost use Rattle.memory_cells.specs.Ports.{place_of};
+ghost use Rattle.memory_cells.specs.Ports.{place_of_address};
 
 use circuit::{Mem, Piece, sig_width};
 use signal_words::{SigReader, sig_word};
 use sim_base::Values;
 
 /// The place of the row that an address names, or none where it is outside the memory.
-pub(crate) fn place_of(mem: &Mem, addr: &[Piece], nets: &Values) -> Option<u32>
+pub(crate) fn place_of_address(mem: &Mem, addr: &[Piece], nets: &Values) -> Option<u32>
     requires inside { AreInside nets.now addr.now }
     requires small { sig_width addr.now ≤ widest }
-    ensures { result ≡ place_of mem.now (sig_number (digits_in nets.now) addr.now) }
+    ensures { result ≡ place_of_address mem.now (sig_number (digits_in nets.now) addr.now) }
 {
     let (offset, size) = (mem.offset, mem.size);
     match small_number(addr, nets) {

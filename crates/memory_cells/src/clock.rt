@@ -10,7 +10,7 @@ ghost use Rattle.signal_words.specs.Values.{digits_in};
 ghost use Rattle.memory_cells.specs.Ports.{IsMemoryOf, stored};
 ghost use Rattle.memory_cells.specs.Rows.{AreRowsOf};
 
-use crate::address::place_of;
+use crate::address::place_of_address;
 use crate::read::clock_reads;
 use crate::renew::clock_writes;
 use crate::rows::Rows;
@@ -27,7 +27,7 @@ pub fn read_port(mem: &Mem, port: u32, rows: &Rows, now: &Store, into: &mut Bits
     ensures { (p : ReadPort) → slice_get mem.now.reads port ≡ Some p → into.new ≡ bit_value mem.now.width (addressed_row mem.now rows.now.rows (sig_number (digits_in now.now.nets) p.addr)) }
 {
     let port = &mem.reads.as_slice()[port as usize];
-    match place_of(mem, port.addr.as_slice(), &now.nets) {
+    match place_of_address(mem, port.addr.as_slice(), &now.nets) {
         Some(place) => rows.row(place, into),
         None => into.clear(),
     }

@@ -9,7 +9,7 @@ ghost use Rattle.sim_base.specs.Values.{numbers, widths};
 ghost use Rattle.signal_words.specs.Values.{AreInside, digits_in};
 ghost use Rattle.memory_cells.specs.Ports.{IsMemoryOf, IsReadPortOf};
 
-use crate::address::place_of;
+use crate::address::place_of_address;
 use crate::rows::read_place;
 use crate::write::write_marked;
 use circuit::{Mem, ReadPort};
@@ -89,7 +89,7 @@ fn take_row(mem: &Mem, port: &ReadPort, rows: &Bits, row: &mut Bits, before: &Va
     requires row { row.old.width ≡ mem.now.width }
     ensures { row.new ≡ bit_value mem.now.width (transparent_read (digits_in before.now) (digits_in now.now) mem.now (parts mem.now.width mem.now.size rows.now.number) port.now) }
 {
-    match place_of(mem, port.addr.as_slice(), now) {
+    match place_of_address(mem, port.addr.as_slice(), now) {
         Some(place) => {
             read_place(mem, place, rows, row);
             write_marked(mem, port.see.as_slice(), place, before, now, row);

@@ -7,7 +7,7 @@ ghost use Rattle.sim_base.specs.Parts.{parts};
 ghost use Rattle.signal_words.specs.Values.{digits_in};
 ghost use Rattle.memory_cells.specs.Ports.{IsMemoryOf, IsWritePortOf, place_written, renewed_rows};
 
-use crate::address::place_of;
+use crate::address::place_of_address;
 use crate::rows::read_place;
 use crate::write::write_all;
 use circuit::{Mem, WritePort};
@@ -44,7 +44,7 @@ fn place_written(mem: &Mem, port: &WritePort, before: &Values, now: &Values) -> 
     ensures { result ≡ place_written (digits_in before.now) (digits_in now.now) mem.now port.now }
 {
     if has_edge(port.rising, before, now, port.clk.as_slice()) {
-        place_of(mem, port.addr.as_slice(), now)
+        place_of_address(mem, port.addr.as_slice(), now)
     } else {
         None
     }

@@ -8,7 +8,7 @@ ghost use Rattle.circuit.specs.Valid.{widest};
 ghost use Rattle.signal_words.specs.Values.{AreInside, digits_in};
 ghost use Rattle.memory_cells.specs.Ports.{is_place, IsWritePortOf, masked_digit, row_by};
 
-use crate::address::place_of;
+use crate::address::place_of_address;
 use circuit::{Mem, WritePort};
 use signal_words::SigReader;
 use sim_base::{Bits, Values};
@@ -72,7 +72,7 @@ fn is_written(mem: &Mem, port: &WritePort, place: u32, before: &Values, now: &Va
     ensures { result ≡ (has_edge port.now.rising (digits_in before.now) (digits_in now.now) port.now.clk && (sig_number (digits_in now.now) port.now.addr == place + mem.now.offset)) }
 {
     has_edge(port.rising, before, now, port.clk.as_slice())
-        && is_place(place_of(mem, port.addr.as_slice(), now), place)
+        && is_place(place_of_address(mem, port.addr.as_slice(), now), place)
 }
 
 /// Whether this is the place.

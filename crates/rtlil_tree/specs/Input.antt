@@ -17,12 +17,12 @@ pub record Input : Type 0 where
   pub end : Place
 
 -- the place of a file's last token; a file without tokens has no fault, and any place does
-abbrev pub place_of : Option Token → Place
-place_of None = record { line = 1; column = 1 }
-place_of (Some t) = record { line = t.line; column = t.column }
+abbrev pub token_place : Option Token → Place
+token_place None = record { line = 1; column = 1 }
+token_place (Some t) = record { line = t.line; column = t.column }
 
 abbrev pub start : List Token → Input
-start tokens = record { rest = tokens; end = place_of (slice_get tokens (length tokens - 1)) }
+start tokens = record { rest = tokens; end = token_place (slice_get tokens (length tokens - 1)) }
 
 -- ---- the next token
 

@@ -11,7 +11,7 @@ use Rattle.sim_base.proofs.Field.{bit_at_mod, bit_at_shr}
 use Rattle.sim_base.proofs.Words.{copied_in, copied_none}
 use Rattle.sim_base.proofs.Copies.{copied_word, copied_number_below, copied_join, placed_word, placed_below}
 use Rattle.sim_base.proofs.Told.{told_none, told_more, told_word}
-use Rattle.sim_base.specs.Values.{widths, width_at, number_at, words_of, place_of, values_of, with_number, IsLaidOut, IsPut}
+use Rattle.sim_base.specs.Values.{widths, width_at, number_at, words_of, first_word, values_of, with_number, IsLaidOut, IsPut}
 use Rattle.sim_base.proofs.Blocks.{block}
 use Rattle.sim_base.proofs.Held.{width_is, place_is, below, number_of_block, length_of_block, fit_block, word_of_block, word_inside, set_view, set_laid, numbers_set, widths_kept}
 
@@ -68,7 +68,7 @@ pub more_word : (old mid new : List BitValue) (n from k m v : ℕ) (a b : Bool) 
 more_word old mid new n from k m v a b first second e =
     more_bits old mid new n from k m v a b first second (λ i lt. ap (λ x. bit_at x i) e ∙ bit_at_mod (from / 2 ^ k) m i lt ∙ bit_at_shr from k i)
 
-pub digit_inside : (words ws places : List ℕ) (values : List BitValue) (n i p at k : ℕ) (laid : IsLaidOut words ws places) (view : values_of ws words ≡ values) (lt : n < length values) → p ≡ place_of (widths values) n → i ≡ p + at / 64 → 0 < k → at + k ≤ width_at values n → i < length words
+pub digit_inside : (words ws places : List ℕ) (values : List BitValue) (n i p at k : ℕ) (laid : IsLaidOut words ws places) (view : values_of ws words ≡ values) (lt : n < length values) → p ≡ first_word (widths values) n → i ≡ p + at / 64 → 0 < k → at + k ≤ width_at values n → i < length words
 digit_inside words ws places values n i p at k laid view lt e f some inside =
     let w = width_is words ws places values n laid view lt in
     let q = place_is words ws places values n laid view lt p e in
@@ -76,7 +76,7 @@ digit_inside words ws places values n i p at k laid view lt e f some inside =
     word_inside words ws places values n laid view lt i (at / 64) (omega (arith, q, f)) d
 
 -- a word of a value is replaced, and its digits are known
-module _ (words ws places : List ℕ) (values : List BitValue) (n i k at v m word : ℕ) (laid : IsLaidOut words ws places) (view : values_of ws words ≡ values) (lt : n < length values) (e : i ≡ place_of ws n + k) (in' : k < words_of (get_or ws n 0)) (fits : word < 2 ^ 64) (bits : (j : ℕ) → bit_at (number_of_words (set (block ws words n) k word)) j ≡ digit_after_copy at v 0 m (number_at values n) j) where
+module _ (words ws places : List ℕ) (values : List BitValue) (n i k at v m word : ℕ) (laid : IsLaidOut words ws places) (view : values_of ws words ≡ values) (lt : n < length values) (e : i ≡ first_word ws n + k) (in' : k < words_of (get_or ws n 0)) (fits : word < 2 ^ 64) (bits : (j : ℕ) → bit_at (number_of_words (set (block ws words n) k word)) j ≡ digit_after_copy at v 0 m (number_at values n) j) where
   in_block : k < length (block ws words n)
   in_block = omega (arith, in', length_of_block words ws places values n laid view lt)
 
@@ -96,7 +96,7 @@ module _ (words ws places : List ℕ) (values : List BitValue) (n i k at v m wor
   }
 
 -- digits inside one word
-module _ (words ws places : List ℕ) (values : List BitValue) (n i at k v word r : ℕ) (laid : IsLaidOut words ws places) (view : values_of ws words ≡ values) (lt : n < length values) (e : i ≡ place_of ws n + at / 64) (some : 0 < k) (small : at % 64 + k ≤ 64) (inside : at + k ≤ width_at values n) (fits : word < 2 ^ 64) (read : r ≡ get_or words i 0) (one : (j : ℕ) → j < 64 → bit_at word j ≡ digit_after_copy (at % 64) v 0 k r j) where
+module _ (words ws places : List ℕ) (values : List BitValue) (n i at k v word r : ℕ) (laid : IsLaidOut words ws places) (view : values_of ws words ≡ values) (lt : n < length values) (e : i ≡ first_word ws n + at / 64) (some : 0 < k) (small : at % 64 + k ≤ 64) (inside : at + k ≤ width_at values n) (fits : word < 2 ^ 64) (read : r ≡ get_or words i 0) (one : (j : ℕ) → j < 64 → bit_at word j ≡ digit_after_copy (at % 64) v 0 k r j) where
   pub word_in : at / 64 < words_of (get_or ws n 0)
   word_in = omega (arith, width_is words ws places values n laid view lt, inside, some)
 
@@ -115,8 +115,8 @@ module _ (words ws places : List ℕ) (values : List BitValue) (n i at k v word 
   digits_copied = word_copied words ws places values n i (at / 64) at v k word laid view lt e word_in fits bits_block
 
 -- a whole word
-module _ (words ws places : List ℕ) (values : List BitValue) (n i p k word : ℕ) (laid : IsLaidOut words ws places) (view : values_of ws words ≡ values) (lt : n < length values) (e : p ≡ place_of (widths values) n) (f : i ≡ p + k) (inside : 64 * k < width_at values n) (low : word < 2 ^ (width_at values n - 64 * k)) (fits : word < 2 ^ 64) where
-  place : i ≡ place_of ws n + k
+module _ (words ws places : List ℕ) (values : List BitValue) (n i p k word : ℕ) (laid : IsLaidOut words ws places) (view : values_of ws words ≡ values) (lt : n < length values) (e : p ≡ first_word (widths values) n) (f : i ≡ p + k) (inside : 64 * k < width_at values n) (low : word < 2 ^ (width_at values n - 64 * k)) (fits : word < 2 ^ 64) where
+  place : i ≡ first_word ws n + k
   place = omega (arith, f, place_is words ws places values n laid view lt p e)
 
   word_in' : k < words_of (get_or ws n 0)

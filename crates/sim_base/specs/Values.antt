@@ -33,10 +33,10 @@ abbrev pub words_of : ℕ → ℕ
 words_of width = (width - 1) / 64 + 1
 
 -- how many words stand before the value at a place
-unfoldable pub place_of : List ℕ → ℕ → ℕ
-place_of [] n = 0
-place_of (w ∷ ws) zero = 0
-place_of (w ∷ ws) (suc n) = words_of w + place_of ws n
+unfoldable pub first_word : List ℕ → ℕ → ℕ
+first_word [] n = 0
+first_word (w ∷ ws) zero = 0
+first_word (w ∷ ws) (suc n) = words_of w + first_word ws n
 
 -- how many words values of these widths take
 abbrev pub room_of : List ℕ → ℕ
@@ -51,7 +51,7 @@ values_of (w ∷ ws) xs = bit_value w (number_of_words (take (words_of w) xs)) �
 pub record IsLaidOut (words widths places : List ℕ) : Type 0 where
   pub few : length widths < 2 ^ 32
   pub shape : length places ≡ length widths
-  pub placed : (n : ℕ) → n < length widths → slice_index places n ≡ place_of widths n
+  pub placed : (n : ℕ) → n < length widths → slice_index places n ≡ first_word widths n
   pub room : length words ≡ room_of widths
   pub below : (n : ℕ) → number_at (values_of widths words) n < 2 ^ slice_index widths n
   pub fit : AreWords words

@@ -2,7 +2,7 @@
 ghost use Rattle.std.specs.Prelude.{◌≡◌, ℕ, ◌+◌, ◌-◌, ◌*◌, ◌/◌, ◌%◌, ◌^◌, ◌<◌, ◌≤◌, ◌==◌, not, length, map, slice_get, slice_index, slice_set, Some, IfOk, IfSome, IsSome, ◌↔◌};
 ghost use Rattle.std.specs.Int.{bit_at};
 ghost use Rattle.sim_base.specs.BitValue.{BitValue, bit_value, digit_after_copy, zeros};
-ghost use Rattle.sim_base.specs.Values.{IsPut, number_at, place_of, room_of, width_at, widths, with_number, words_of};
+ghost use Rattle.sim_base.specs.Values.{IsPut, number_at, first_word, room_of, width_at, widths, with_number, words_of};
 
 use crate::bits::{Bits, merged, store};
 use crate::memory::NoMemory;
@@ -93,7 +93,7 @@ impl Values {
     #[inline(always)]
     fn span(&self, n: u32) -> Span
         requires { n < length self.now }
-        ensures place { result.place ≡ place_of (widths self.now) n }
+        ensures place { result.place ≡ first_word (widths self.now) n }
         ensures width { result.width ≡ width_at self.now n }
     {
         let _ = &self.words;

@@ -1,7 +1,7 @@
 use Rattle.std.proofs.Common.{◌≡◌, ◌<◌, ◌^◌, ◌+◌, suc, ℕ, ◌∙◌, List, [], ◌∷◌, ◌++◌, length, get_or, map, take, replicate, take_all, sym, ap, subst, arith, length-append}
 use Rattle.std.proofs.lemmas.List.{map-append, length-map}
 use Rattle.std.proofs.Math.Seq.{take-suc}
-use Rattle.sim_base.specs.Values.{place_of, room_of, values_of, IsLaidOut}
+use Rattle.sim_base.specs.Values.{first_word, room_of, values_of, IsLaidOut}
 use Rattle.sim_base.specs.declared.values.Span.{Span}
 use Rattle.sim_base.proofs.Blocks.{place_start, place_step, place_end, room_for, values_of_zeros}
 use Rattle.sim_base.proofs.Held.{laid_zeros, placed_more}
@@ -48,7 +48,7 @@ all : (c : In_ok-words) → c.loop-width.width-index ≡ length c.args.widths.no
 all c = omega arith
 
 room : (c : In_ok-words) → c.loop-width.place ≡ room_of c.args.widths.now
-room c = c.loop-width.invariant.room ∙ ap (place_of c.args.widths.now) (all c) ∙ place_end c.args.widths.now
+room c = c.loop-width.invariant.room ∙ ap (first_word c.args.widths.now) (all c) ∙ place_end c.args.widths.now
 
 few : (c : In_ok-words) → c.loop-width.place < 2 ^ 32
 few c = omega (arith, room c, c.requires)

@@ -1,6 +1,6 @@
 use Rattle.std.proofs.Common.{map, ◌≡◌, ◌+◌, ◌/◌, ◌<◌, ℕ, List, get_or, length, sym, ap, subst, arith}
 use Rattle.std.proofs.lemmas.List.{get_or_read}
-use Rattle.sim_base.specs.Values.{place_of, values_of, IsLaidOut}
+use Rattle.sim_base.specs.Values.{first_word, values_of, IsLaidOut}
 use Rattle.sim_base.proofs.Held.{place_is}
 use Rattle.sim_base.proofs.Written.{IsCopied, digit_inside, digits_laid, digits_copied}
 use Rattle.sim_base.specs.declared.values.Span.{Span}
@@ -16,7 +16,7 @@ index-requires c =
 pub store-requires : goal.store-requires
 store-requires c = digit_inside _ _ _ _ c.args.n (c.span.result.place + c.args.at / 64) c.span.result.place c.args.at c.args.k c.self.invariant c.self.view_is c.requires.there c.span.ensures.place (omega arith) c.requires.some c.requires.inside
 
-e : (c : After-store) → c.span.result.place + c.args.at / 64 ≡ place_of (map (λ (s : Span). s.width) c.self.inside.spans.items) c.args.n + c.args.at / 64
+e : (c : After-store) → c.span.result.place + c.args.at / 64 ≡ first_word (map (λ (s : Span). s.width) c.self.inside.spans.items) c.args.n + c.args.at / 64
 e c = ap (λ p. p + c.args.at / 64) (place_is _ _ _ _ c.args.n c.self.invariant c.self.view_is c.requires.there c.span.result.place c.span.ensures.place)
 
 read : (c : After-store) → c.index.result.now ≡ get_or c.self.inside.words.items (c.span.result.place + c.args.at / 64) 0
