@@ -11,3 +11,4 @@ mod settings;
 
 pub use cell::memory;
 pub use item::item_identifier;
+pub use settings::is_set;

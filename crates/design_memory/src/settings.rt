@@ -114,7 +114,7 @@ pub(crate) fn values_of(alloc: Global, settings: &[Setting]) -> Result<Values, N
 
 /// Whether a bit of a value is 1; those beyond it are 0.
 #[tactic(auto, using(crate::proofs::Bits::set_inside, crate::proofs::Bits::set_beyond))]
-pub(crate) fn is_set(value: &Bits, at: u64) -> bool
+pub fn is_set(value: &Bits, at: u64) -> bool
     ensures { result ≡ spec.is_set value.now at }
 {
     at < value.width() as u64 && value.bit(at as u32)

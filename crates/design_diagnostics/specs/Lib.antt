@@ -1,0 +1,4 @@
+pub mod Names
+pub mod Readings
+pub mod Rules
+pub mod Diagnostics
