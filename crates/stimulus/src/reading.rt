@@ -1,7 +1,7 @@
 //! A stimulus' text, line by line.
 ghost use Rattle.std.specs.Prelude.{◌≡◌, ◌<◌, ◌≤◌, ◌+◌, IfErr, IfOk, length, map, max, Ok, Err};
 ghost use Rattle.stimulus_text.specs.declared.fault.StimFaultKind.{StimFaultKind as Kind};
-ghost use Rattle.stimulus_blocks.specs.Courses.{input_widths};
+ghost use Rattle.stimulus_blocks.specs.Courses.{input_widths, sample_count};
 ghost use Rattle.stimulus.specs.Inputs.{width_of};
 ghost use Rattle.stimulus.specs.Reading.{course_of, Fails};
 ghost use Rattle.stimulus.specs.Sound.{IsSound};
@@ -62,12 +62,14 @@ impl Reading {
 
     /// The stimulus of a text that ends here.
     fn end(self) -> Result<Stimulus, StimFaultKind>
-        ensures { result ≡ end_step self }
+        ensures value { result ≡ end_step self }
+        ensures some { IfOk result (λ s. 1 ≤ sample_count s) }
     {
         match self {
             Reading::Start | Reading::Within(_, _) => Err(StimFaultKind::Head),
             Reading::Headed => Err(StimFaultKind::InputNames),
             Reading::Between(stimulus) => {
+                let _ = stimulus.count();
                 if stimulus.len() == 0 {
                     Err(StimFaultKind::Empty)
                 } else {
@@ -106,6 +108,7 @@ impl Reading {
 pub fn read(alloc: Global, text: &[u8], circuit: &Circuit) -> Result<Stimulus, StimFault>
     requires countable { length text.now < 4294967295 }
     ensures ok { IfOk result (λ s. course_of text.now circuit.now ≡ Ok s) }
+    ensures some { IfOk result (λ s. 1 ≤ sample_count s) }
     ensures inputs { IfOk result (λ s. input_widths s ≡ map (width_of circuit.now) circuit.now.inputs) }
     ensures fault { IfErr result (λ fault. Fails fault (course_of text.now circuit.now)) }
 {

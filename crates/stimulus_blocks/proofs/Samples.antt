@@ -140,3 +140,11 @@ samples_more (b ∷ bs) zero d lt = omega arith
 samples_more (b ∷ bs) (suc n) d lt =
     let more : suc n + 1 ≡ suc (n + 1) = omega arith in
     ap (λ m. samples_in (take m (b ∷ bs))) more ∙ ap (λ m. samples_of b + m) (samples_more bs n d (omega arith)) ∙ (let e : samples_of b + (samples_in (take n bs) + samples_of (get_or bs n d)) ≡ samples_of b + samples_in (take n bs) + samples_of (get_or bs n d) = omega arith in e)
+
+-- each block has a sample
+pub some_samples : (widths : List ℕ) (bs : List Block) → ((n : ℕ) (b : Block) → slice_get bs n ≡ Some b → IsBlock widths b) → 0 < length bs → 1 ≤ samples_in bs
+some_samples widths [] good lt = absurd (omega arith)
+some_samples widths (b ∷ bs) good lt =
+    let block = good 0 b refl in
+    let m : 1 * length b.rows ≤ b.repeats * length b.rows = mul-le-mul_right (length b.rows) block.comes in
+    omega (arith, block.some)

@@ -118,6 +118,7 @@ impl Stimulus {
     pub fn count(&self) -> u64
         ensures value { result ≡ sample_count self.now }
         ensures most { result ≤ 16777216 }
+        ensures some { 0 < length self.now.blocks → 1 ≤ result }
     {
         self.count
     }

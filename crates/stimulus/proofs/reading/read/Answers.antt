@@ -15,7 +15,7 @@ returns-in-Err-clause-fault c =
 
 pub returns-in-Err-end-clause-fault : goal.returns-in-Err-end-clause-fault
 returns-in-Err-end-clause-fault c =
-    c.loop-line.invariant.read ∙ ends c.args.circuit.now c.loop-line.number c.loop-line.reading (lines_of c.loop-line.rest.now) (Err c.in-Err-end.kind) c.in_default.ensures.lines c.in-Err-end.ensures
+    c.loop-line.invariant.read ∙ ends c.args.circuit.now c.loop-line.number c.loop-line.reading (lines_of c.loop-line.rest.now) (Err c.in-Err-end.kind) c.in_default.ensures.lines c.in-Err-end.ensures.value
     ∙ ap (λ n. Err (At c.in-Err-end.kind n)) (sym c.max.ensures)
 
 pub loop-line-preserved : goal.loop-line-preserved
@@ -26,9 +26,9 @@ loop-line-preserved c = record {
 }
 
 pub returns-in-Ok-end-clause-ok : goal.returns-in-Ok-end-clause-ok
-returns-in-Ok-end-clause-ok c = c.loop-line.invariant.read ∙ ends c.args.circuit.now c.loop-line.number c.loop-line.reading (lines_of c.loop-line.rest.now) (Ok c.in-Ok-end.stimulus) c.in_default.ensures.lines c.in-Ok-end.ensures
+returns-in-Ok-end-clause-ok c = c.loop-line.invariant.read ∙ ends c.args.circuit.now c.loop-line.number c.loop-line.reading (lines_of c.loop-line.rest.now) (Ok c.in-Ok-end.stimulus) c.in_default.ensures.lines c.in-Ok-end.ensures.value
 
 pub returns-in-Ok-end-clause-inputs : goal.returns-in-Ok-end-clause-inputs
 returns-in-Ok-end-clause-inputs c =
     inputs_kept c.args.circuit.now (lines_of c.args.text.now) c.in-Ok-end.stimulus
-    (c.loop-line.invariant.read ∙ ends c.args.circuit.now c.loop-line.number c.loop-line.reading (lines_of c.loop-line.rest.now) (Ok c.in-Ok-end.stimulus) c.in_default.ensures.lines c.in-Ok-end.ensures)
+    (c.loop-line.invariant.read ∙ ends c.args.circuit.now c.loop-line.number c.loop-line.reading (lines_of c.loop-line.rest.now) (Ok c.in-Ok-end.stimulus) c.in_default.ensures.lines c.in-Ok-end.ensures.value)
