@@ -2,7 +2,9 @@
 ghost use Rattle.std.specs.Prelude.{◌≡◌, ◌+◌, ◌/◌, ◌%◌, ◌^◌, ◌<◌, ◌≤◌, IfSome};
 ghost use Rattle.sim_base.specs.BitValue.{bit_value};
 ghost use Rattle.circuit.specs.Signal.{piece_number, piece_width};
+ghost use Rattle.std.specs.Option.{is_some};
 ghost use Rattle.signal_words.specs.Values.{digits_in, IsInside};
+ghost use Rattle.signal_words.specs.Wholes.{is_whole, is_whole_of};
 
 use crate::values::SigWord;
 use circuit::Piece;
@@ -76,6 +78,7 @@ pub fn piece_of_width(piece: &Piece, nets: &Values, width: u32) -> Option<u64>
     ensures width { IfSome result (λ number. piece_width piece.now ≡ width) }
     ensures value { IfSome result (λ number. number ≡ piece_number (digits_in nets.now) piece.now) }
     ensures below { IfSome result (λ number. number < 2 ^ width) }
+    ensures some { is_some result ≡ is_whole_of nets.now width piece.now }
 {
     match piece {
         Piece::Const(value) if value.width() == width => Some(value.word()),
@@ -92,7 +95,8 @@ pub fn piece_of_width(piece: &Piece, nets: &Values, width: u32) -> Option<u64>
 #[inline(always)]
 pub fn piece_value<'a>(piece: &'a Piece, nets: &'a Values) -> Option<BitsView<'a>>
     requires { IsInside nets.now piece.now }
-    ensures { IfSome result (λ value. value ≡ bit_value (piece_width piece.now) (piece_number (digits_in nets.now) piece.now)) }
+    ensures value { IfSome result (λ value. value ≡ bit_value (piece_width piece.now) (piece_number (digits_in nets.now) piece.now)) }
+    ensures some { is_some result ≡ is_whole nets.now piece.now }
 {
     match piece {
         Piece::Const(value) => Some(value.view()),
@@ -116,6 +120,7 @@ pub fn piece_value_of_width<'a>(
     requires { IsInside nets.now piece.now }
     ensures value { IfSome result (λ value. value ≡ bit_value (piece_width piece.now) (piece_number (digits_in nets.now) piece.now)) }
     ensures width { IfSome result (λ value. value.width ≡ width) }
+    ensures some { is_some result ≡ is_whole_of nets.now width piece.now }
 {
     match piece {
         Piece::Const(value) if value.width() == width => Some(value.view()),

@@ -2,7 +2,9 @@
 ghost use Rattle.std.specs.Prelude.{◌≡◌, ◌<◌, ◌≤◌, ◌^◌, ◌↔◌, IfSome, IsSome};
 ghost use Rattle.sim_base.specs.BitValue.{bit_value};
 ghost use Rattle.circuit.specs.Signal.{piece_number, piece_width, sig_value, sig_width};
+ghost use Rattle.std.specs.Option.{is_some};
 ghost use Rattle.signal_words.specs.Values.{digits_in, AreInside, IsInside, IsWordOf};
+ghost use Rattle.signal_words.specs.Wholes.{is_at_most_one, is_one, is_small, is_small_whole, is_whole, is_whole_of};
 
 use crate::piece::{piece_of_width, piece_value, piece_value_of_width, piece_word};
 use crate::signal::sig_word;
@@ -18,6 +20,7 @@ fn word_of_piece(piece: &Piece, nets: &Values) -> Option<SigWord>
     ensures width { IfSome result (λ word. word.width ≡ piece_width piece.now) }
     ensures number { IfSome result (λ word. word.number ≡ piece_number (digits_in nets.now) piece.now) }
     ensures below { IfSome result (λ word. word.number < 2 ^ word.width) }
+    ensures some { is_some result ≡ is_small piece.now }
 {
     match piece {
         Piece::Const(value) if value.width() <= 64 => Some(SigWord {
@@ -40,6 +43,7 @@ fn word_of_whole_piece(piece: &Piece, nets: &Values) -> Option<SigWord>
     ensures width { IfSome result (λ word. word.width ≡ piece_width piece.now) }
     ensures number { IfSome result (λ word. word.number ≡ piece_number (digits_in nets.now) piece.now) }
     ensures below { IfSome result (λ word. word.number < 2 ^ word.width) }
+    ensures some { is_some result ≡ is_small_whole nets.now piece.now }
 {
     match piece {
         Piece::Const(value) if value.width() <= 64 => Some(SigWord {
@@ -61,7 +65,8 @@ fn word_of_whole_piece(piece: &Piece, nets: &Values) -> Option<SigWord>
 #[inline(always)]
 pub fn whole_sig_word(sig: &[Piece], nets: &Values) -> Option<SigWord>
     requires { AreInside nets.now sig.now }
-    ensures { IfSome result (λ word. IsWordOf nets.now sig.now word.width word.number) }
+    ensures word { IfSome result (λ word. IsWordOf nets.now sig.now word.width word.number) }
+    ensures some { is_some result ≡ is_one (is_small_whole nets.now) sig.now }
 {
     match sig {
         [piece] => word_of_whole_piece(piece, nets),
@@ -74,7 +79,8 @@ pub fn whole_sig_word(sig: &[Piece], nets: &Values) -> Option<SigWord>
 #[inline(always)]
 pub fn word_of_whole(sig: &[Piece], nets: &Values) -> Option<SigWord>
     requires { AreInside nets.now sig.now }
-    ensures { IfSome result (λ word. IsWordOf nets.now sig.now word.width word.number) }
+    ensures word { IfSome result (λ word. IsWordOf nets.now sig.now word.width word.number) }
+    ensures some { is_some result ≡ is_at_most_one (is_small_whole nets.now) sig.now }
 {
     match sig {
         [piece] => word_of_whole_piece(piece, nets),
@@ -91,7 +97,8 @@ pub fn word_of_whole(sig: &[Piece], nets: &Values) -> Option<SigWord>
 #[inline(always)]
 pub fn one_word(sig: &[Piece], nets: &Values) -> Option<SigWord>
     requires { AreInside nets.now sig.now }
-    ensures { IfSome result (λ word. IsWordOf nets.now sig.now word.width word.number) }
+    ensures word { IfSome result (λ word. IsWordOf nets.now sig.now word.width word.number) }
+    ensures some { is_some result ≡ is_at_most_one is_small sig.now }
 {
     match sig {
         [piece] => word_of_piece(piece, nets),
@@ -122,7 +129,8 @@ pub fn word_of(sig: &[Piece], nets: &Values) -> Option<SigWord>
 #[inline(always)]
 pub fn whole_value<'a>(sig: &'a [Piece], nets: &'a Values) -> Option<BitsView<'a>>
     requires { AreInside nets.now sig.now }
-    ensures { IfSome result (λ value. value ≡ sig_value (digits_in nets.now) sig.now) }
+    ensures value { IfSome result (λ value. value ≡ sig_value (digits_in nets.now) sig.now) }
+    ensures some { is_some result ≡ is_one (is_whole nets.now) sig.now }
 {
     match sig {
         [piece] => piece_value(piece, nets),
@@ -140,6 +148,7 @@ pub fn whole_value_of_width<'a>(
     requires { AreInside nets.now sig.now }
     ensures value { IfSome result (λ value. value ≡ sig_value (digits_in nets.now) sig.now) }
     ensures width { IfSome result (λ value. value.width ≡ width) }
+    ensures some { is_some result ≡ is_one (is_whole_of nets.now width) sig.now }
 {
     match sig {
         [piece] => piece_value_of_width(piece, nets, width),
@@ -154,6 +163,7 @@ pub fn whole_word(sig: &[Piece], nets: &Values, width: u32) -> Option<u64>
     requires small { width ≤ 64 }
     ensures value { IfSome result (λ number. bit_value width number ≡ sig_value (digits_in nets.now) sig.now) }
     ensures below { IfSome result (λ number. number < 2 ^ width) }
+    ensures some { is_some result ≡ is_one (is_whole_of nets.now width) sig.now }
 {
     match sig {
         [piece] => piece_of_width(piece, nets, width),

@@ -23,7 +23,7 @@ number c =
     let w = c.in-Some.a.width in
     let x = c.in-Some.a.number in
     let y = c.in-Some-whole_word.b in
-    let a : bit_value w x ≡ i.a = ap (λ k. bit_value k x) c.in-Some.ensures.width_is ∙ ap (bit_value _) c.in-Some.ensures.number_is ∙ ap (sig_value digits) c.as_slice.ensures in
+    let a : bit_value w x ≡ i.a = ap (λ k. bit_value k x) c.in-Some.ensures.word.width_is ∙ ap (bit_value _) c.in-Some.ensures.word.number_is ∙ ap (sig_value digits) c.as_slice.ensures in
     let b : bit_value w y ≡ i.b = c.in-Some-whole_word.ensures.value ∙ ap (sig_value digits) c.as_slice-in-Some.ensures in
     let some : 0 < cell.width = (c.if-is_one_word.ensures.0 refl).0 in
     c.digit.ensures ∙ sym (truth_digits cell.width c.compared-told.result some)

@@ -15,8 +15,8 @@ plain c =
     let an = c.in-Some.a.number in
     let bw = c.in-Some-whole_sig_word.b.width in
     let bn = c.in-Some-whole_sig_word.b.number in
-    let a : IsWordOf c.args.nets.now cell.a aw an = subst (λ sig. IsWordOf c.args.nets.now sig aw an) c.as_slice.ensures c.in-Some.ensures in
-    let b : IsWordOf c.args.nets.now cell.b bw bn = subst (λ sig. IsWordOf c.args.nets.now sig bw bn) c.as_slice-in-Some.ensures c.in-Some-whole_sig_word.ensures in
+    let a : IsWordOf c.args.nets.now cell.a aw an = subst (λ sig. IsWordOf c.args.nets.now sig aw an) c.as_slice.ensures c.in-Some.ensures.word in
+    let b : IsWordOf c.args.nets.now cell.b bw bn = subst (λ sig. IsWordOf c.args.nets.now sig bw bn) c.as_slice-in-Some.ensures c.in-Some-whole_sig_word.ensures.word in
     let i = cell_inputs (digits_in c.args.nets.now) cell in
     let p : 2 ^ aw ≤ 2 ^ 64 = pow-le-pow_right {n = 2} (lit< tt) {i = aw} {j = 64} a.small in
     record {
