@@ -12,7 +12,7 @@ use sim_base::{Bits, NoMemory, Time};
 use sqlite_items::Items;
 use std::alloc::Global;
 use std::marker::Model;
-use stimulus_text::{Value, put_value};
+use stimulus_text::{Value, put_narrow, put_value};
 
 /// A block, with what stands before it.
 #[derive(Debug, Drop)]
@@ -32,8 +32,8 @@ struct Standing {
     block: usize,
     repeat: u64,
     row: usize,
-    /// When the repeat starts.
-    start: Time,
+    /// When the repeat starts, in femtoseconds.
+    start: u128,
 }
 
 /// Where a reader of samples stood last. It makes the sample behind that one cheap to find, and changes no answer.
@@ -184,6 +184,8 @@ impl Stimulus {
     }
 
     /// The place of the block of sample `k`, by halving.
+    #[cold]
+    #[inline(never)]
     fn find(&self, k: u64) -> usize
         requires { k < sample_count self.now }
         ensures { HasSample self.now.blocks result k }
@@ -202,7 +204,6 @@ impl Stimulus {
     }
 
     /// Where sample `k` stands.
-    #[inline(never)]
     fn find_row(&self, k: u64) -> Standing
         requires { k < sample_count self.now }
         ensures sample { result.sample ≡ k }
@@ -219,7 +220,7 @@ impl Stimulus {
             block,
             repeat,
             row: (at % rows) as usize,
-            start: Time::of(placed.start.femtoseconds() + before).unwrap(),
+            start: placed.start.femtoseconds() + before,
         }
     }
 
@@ -243,7 +244,7 @@ impl Stimulus {
         if repeat == block.repeats {
             return None;
         }
-        let start = Time::of(at.start.femtoseconds() + block.period.femtoseconds()).unwrap();
+        let start = at.start + block.period.femtoseconds();
         Some(Standing {
             sample,
             block: at.block,
@@ -275,7 +276,7 @@ impl Stimulus {
     {
         let placed = &self.blocks[at.block];
         let offset = placed.block.rows.offset(at.row);
-        Time::of(at.start.femtoseconds() + offset.femtoseconds()).unwrap()
+        Time::of(at.start + offset.femtoseconds()).unwrap()
     }
 
     /// Writes the inputs of the sample that stands there.
@@ -359,8 +360,28 @@ fn zeros_of(alloc: Global, of: &[u32], columns: &[usize]) -> Result<Vec<Bits>, N
     Ok(zeros)
 }
 
-/// Writes for each input the value in its column.
+/// Writes for each input the value in its column. At most 64 bits are written where they stand; at the first input of
+/// more bits the row is written anew, out of line, so that nothing is called while rows are narrow.
+#[inline(always)]
 fn put_row(values: &[Value], columns: &[usize], into: &mut [Bits])
+    requires room { length into.old ≡ length columns.now }
+    requires there { (n : ℕ) → n < length columns.now → slice_index columns.now n < length values.now }
+    requires fit { (n : ℕ) → slice_index (map (λ column. slice_index (map number_of values.now) column) columns.now) n < 2 ^ slice_index (widths into.old) n }
+    ensures widths { widths into.new ≡ widths into.old }
+    ensures numbers { numbers into.new ≡ map (λ column. slice_index (map number_of values.now) column) columns.now }
+{
+    for i in 0..columns.len() {
+        if !put_narrow(&values[columns[i]], &mut into[i]) {
+            put_wide_row(values, columns, into);
+            return;
+        }
+    }
+}
+
+/// The same, for inputs of any width.
+#[cold]
+#[inline(never)]
+fn put_wide_row(values: &[Value], columns: &[usize], into: &mut [Bits])
     requires room { length into.old ≡ length columns.now }
     requires there { (n : ℕ) → n < length columns.now → slice_index columns.now n < length values.now }
     requires fit { (n : ℕ) → slice_index (map (λ column. slice_index (map number_of values.now) column) columns.now) n < 2 ^ slice_index (widths into.old) n }

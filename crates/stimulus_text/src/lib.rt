@@ -9,4 +9,4 @@ mod value;
 pub use fault::{StimFault, StimFaultKind};
 pub use lines::{Line, is_comment, next_line, words_of};
 pub use numbers::read_repeats;
-pub use value::{Value, put_value, read_value};
+pub use value::{Value, put_narrow, put_value, read_value};

@@ -1,5 +1,5 @@
 //! Values of bits, kept in as little memory as their text takes.
-ghost use Rattle.std.specs.Prelude.{◌≡◌, ◌^◌, ◌<◌, ◌≤◌, Some, None, Ok, Err, IfOk, length, nat_lt, unwrap_or};
+ghost use Rattle.std.specs.Prelude.{◌≡◌, ◌^◌, ◌<◌, ◌≤◌, Some, None, Ok, Err, IfOk, IsTrue, false, length, nat_lt, unwrap_or};
 ghost use Rattle.std.specs.Char.{digit_value};
 ghost use Rattle.std.specs.Option.{option_map};
 ghost use Rattle.sim_base.specs.BitValue.{bit_value};
@@ -88,6 +88,23 @@ pub fn read_value(alloc: Global, width: u32, word: &[u8]) -> Result<Option<Value
         return read_digits(alloc, width, word);
     }
     Ok(read_word(width, word).map(Value::Word))
+}
+
+/// Writes a value's number into bits that hold it, where it is a word and there are at most 64 bits; it tells whether it
+/// did, and leaves them as they are where not.
+#[inline(always)]
+pub fn put_narrow(value: &Value, into: &mut Bits) -> bool
+    requires { number_of value.now < 2 ^ into.old.width }
+    ensures put { IsTrue result → into.new ≡ bit_value into.old.width (number_of value.now) }
+    ensures kept { result ≡ false → into.new ≡ into.old }
+{
+    match value {
+        Value::Word(number) if into.width() <= 64 => {
+            into.put(*number);
+            true
+        }
+        _ => false,
+    }
 }
 
 /// Writes a value's number into bits that hold it.

@@ -6,8 +6,8 @@ use Rattle.stimulus_text.specs.Numbers.{number_of}
 use Rattle.stimulus_blocks.proofs.Put.{widths_set, width_here, value_here, numbers_more, numbers_all}
 use Rattle.stimulus_blocks.proofs.course.put_row.Goals as goal
 
-pub put_value-requires : goal.put_value-requires
-put_value-requires c =
+pub put_narrow-requires : goal.put_narrow-requires
+put_narrow-requires c =
     let inside : c.loop-i.i < length c.loop-i.into = omega (arith, c.loop-i.auto.into, c.requires.room, c.loop-i-test.true) in
     let v = value_here c.args.values.now c.args.columns.now c.loop-i.i c.index-values-columns.result c.loop-i-test.true (c.requires.there c.loop-i.i c.loop-i-test.true) c.index-values-columns.is in
     let w = width_here c.loop-i.into c.loop-i.i c.index-into-i.result inside c.index-into-i.is in
@@ -20,10 +20,10 @@ pub loop-i-preserved : goal.loop-i-preserved
 loop-i-preserved c =
     let inside : c.loop-i.i < length c.loop-i.into = omega (arith, c.loop-i.auto.into, c.requires.room, c.loop-i-test.true) in
     let v = value_here c.args.values.now c.args.columns.now c.loop-i.i c.index-values-columns.result c.loop-i-test.true (c.requires.there c.loop-i.i c.loop-i-test.true) c.index-values-columns.is in
-    let put : c.put_value.new.into ≡ bit_value c.index-into-i.result.width (number_of c.index-values-columns.result) = c.put_value.ensures ∙ ap (λ (y : BitValue). bit_value y.width (number_of c.index-values-columns.result)) (sym c.index-into-i.is) in
+    let put : c.put_narrow.new.into ≡ bit_value c.index-into-i.result.width (number_of c.index-values-columns.result) = c.put_narrow.ensures.put c.if-not-put_narrow.false ∙ ap (λ (y : BitValue). bit_value y.width (number_of c.index-values-columns.result)) (sym c.index-into-i.is) in
     record {
       widths = ap (λ (x : BitValue). widths (set c.loop-i.into c.loop-i.i x)) put ∙ widths_set c.loop-i.into c.loop-i.i (number_of c.index-values-columns.result) c.index-into-i.result c.index-into-i.is ∙ c.loop-i.invariant.widths;
-      numbers = numbers_more c.loop-i.into c.loop-i.i c.put_value.new.into (map (λ column. get_or (map number_of c.args.values.now) column 0) c.args.columns.now) inside c.loop-i.invariant.numbers (v ∙ sym (ap (λ x. x.number) put));
+      numbers = numbers_more c.loop-i.into c.loop-i.i c.put_narrow.new.into (map (λ column. get_or (map number_of c.args.values.now) column 0) c.args.columns.now) inside c.loop-i.invariant.numbers (v ∙ sym (ap (λ x. x.number) put));
     }
 
 pub returns-clause-numbers : goal.returns-clause-numbers

@@ -1,4 +1,4 @@
-use Rattle.std.proofs.Common.{◌≡◌, ◌≤◌, subst, arith}
+use Rattle.std.proofs.Common.{◌≡◌, subst, arith}
 use Rattle.stimulus_blocks.specs.Blocks.{samples_in}
 use Rattle.stimulus_blocks.specs.Courses.{Course, IsCourse}
 use Rattle.stimulus_blocks.proofs.Samples.{some_samples}

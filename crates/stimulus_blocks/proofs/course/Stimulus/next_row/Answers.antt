@@ -1,7 +1,6 @@
-use Rattle.std.proofs.Common.{◌≡◌, ◌≤◌, ◌+◌, refl, sym, subst, ◌∙◌, arith}
-use Rattle.sim_base.specs.TimeText.{largest_time}
+use Rattle.std.proofs.Common.{◌+◌, subst, arith}
 use Rattle.stimulus_blocks.specs.Courses.{Course, IsCourse}
-use Rattle.stimulus_blocks.proofs.Here.{holds, next_repeat, next_row, repeat_before, small, time_small, time_value, time_some}
+use Rattle.stimulus_blocks.proofs.Here.{holds, next_repeat, next_row, repeat_before, small, time_small}
 use Rattle.stimulus_blocks.proofs.course.Stimulus.next_row.Goals as goal
 
 pub overflow_add-sample : goal.overflow_add-sample
@@ -27,21 +26,15 @@ returns-then-row-len-clause-stands c =
     let h = holds _ _ _ _ _ _ _ _ _ c.self.view_is c.self.invariant c.requires.has c.index-placed.ensures in
     next_row c.args.self.now c.args.at c.index-placed.result.now h c.requires (omega (arith, c.if-row-len.true, c.len.ensures))
 
-pub unwrap-start-requires : goal.unwrap-start-requires
-unwrap-start-requires c =
+pub overflow_add-start : goal.overflow_add-start
+overflow_add-start c =
     let h = holds _ _ _ _ _ _ _ _ _ c.self.view_is c.self.invariant c.requires.has c.index-placed.ensures in
-    let b = repeat_before c.args.self.now c.args.at c.index-placed.result.now h c.requires in
-    let n = next_repeat c.args.self.now c.args.at c.index-placed.result.now h c.requires (omega (arith, c.if-row-len.false, c.len.ensures)) (omega (arith, c.if-repeat-block.false)) (c.args.at.start + c.index-placed.result.now.block.period) refl in
-    let further = holds _ _ _ _ _ _ _ _ _ c.self.view_is c.self.invariant n.has c.index-placed.ensures in
-    let t = time_small c.args.self.now (record { sample = c.args.at.sample + 1; block = c.args.at.block; repeat = c.args.at.repeat + 1; row = 0; start = c.args.at.start + c.index-placed.result.now.block.period }) c.index-placed.result.now further n in
-    let e = c.femtoseconds-2.ensures.value in let f = c.femtoseconds.ensures.value in
-    let s : c.femtoseconds.result + c.femtoseconds-2.result ≤ largest_time = omega arith in
-    rw (c.of.ensures ∙ time_some _ s)
+    let t = time_small c.args.self.now c.args.at c.index-placed.result.now h c.requires in
+    let m = c.femtoseconds.ensures.most in omega arith
 
 pub returns-clause-stands : goal.returns-clause-stands
 returns-clause-stands c =
     let h = holds _ _ _ _ _ _ _ _ _ c.self.view_is c.self.invariant c.requires.has c.index-placed.ensures in
     let b = repeat_before c.args.self.now c.args.at c.index-placed.result.now h c.requires in
-    let e = c.femtoseconds-2.ensures.value in let f = c.femtoseconds.ensures.value in
-    let v : c.unwrap-start.result ≡ c.femtoseconds.result + c.femtoseconds-2.result = time_value _ _ (sym c.of.ensures ∙ c.unwrap-start.ensures) in
-    next_repeat c.args.self.now c.args.at c.index-placed.result.now h c.requires (omega (arith, c.if-row-len.false, c.len.ensures)) (omega (arith, c.if-repeat-block.false)) c.unwrap-start.result (omega arith)
+    let e = c.femtoseconds.ensures.value in
+    next_repeat c.args.self.now c.args.at c.index-placed.result.now h c.requires (omega (arith, c.if-row-len.false, c.len.ensures)) (omega (arith, c.if-repeat-block.false)) (c.args.at.start + c.femtoseconds.result) (omega arith)
