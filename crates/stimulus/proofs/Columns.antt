@@ -1,6 +1,6 @@
 -- Each column that an input has is there, and has the input's width.
-use Rattle.std.proofs.Common.{◌≡◌, ℕ, zero, suc, ◌<◌, List, [], ◌∷◌, length, get_or, map, refl, ◌∙◌, ap, subst, arith, Option, Some, None}
-use Rattle.std.specs.Prelude.{◌==◌, option_and_then, position}
+use Rattle.std.proofs.Common.{◌≡◌, ℕ, zero, suc, ◌<◌, List, [], ◌∷◌, length, get_or, map, refl, sym, ◌∙◌, ap, subst, arith, Option, Some, None}
+use Rattle.std.specs.Prelude.{option_and_then, nat_eq, position}
 use Rattle.std.specs.Option.{option_map}
 use Rattle.std.proofs.lemmas.Bool.{eqb-true}
 use Rattle.std.proofs.lemmas.List.Quantifiers.{position-Some}
@@ -28,11 +28,11 @@ columns_good nets [] columns e =
     let z : [] ≡ columns = cc e in
     subst (λ (l : List ℕ). AreColumns nets [] l) z (record { there = λ n lt. absurd (omega arith); named = refl })
 columns_good nets (input ∷ inputs) columns e =
-    let a = and_then_some (λ n. option_map (λ ns. n ∷ ns) (columns_of nets inputs)) (position (λ net. net == input) nets) columns e in
+    let a = and_then_some (λ n. option_map (λ ns. n ∷ ns) (columns_of nets inputs)) (position (nat_eq input) nets) columns e in
     let b = map_some (λ ns. a.0 ∷ ns) (columns_of nets inputs) columns a.2 in
     let ih = columns_good nets inputs b.0 b.1 in
-    let p = position-Some (λ net. net == input) nets a.0 0 a.1 in
-    let here : get_or nets a.0 0 ≡ input = eqb-true (get_or nets a.0 0) input p.1 in
+    let p = position-Some (nat_eq input) nets a.0 0 a.1 in
+    let here : get_or nets a.0 0 ≡ input = sym (eqb-true input (get_or nets a.0 0) p.1) in
     subst (λ (l : List ℕ). AreColumns nets (input ∷ inputs) l) b.2
     (record {
       there = there_front nets b.0 a.0 p.0 ih.there;

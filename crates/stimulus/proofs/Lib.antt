@@ -4,3 +4,5 @@ pub mod Named
 pub mod Grown
 pub mod LineSteps
 pub mod Kept
+pub mod Places
+pub mod InputWidths

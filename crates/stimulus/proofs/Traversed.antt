@@ -1,7 +1,7 @@
 -- Lists that are read one after another, where each can be.
 use Rattle.std.specs.Borrow.{Bor}
 use Rattle.std.proofs.Common.{◌≡◌, ◌≢◌, ℕ, suc, ◌+◌, ◌<◌, ◌≤◌, List, [], ◌∷◌, ◌++◌, length, get_or, map, drop, refl, ◌∙◌, ap, append_assoc, Option, Some, None}
-use Rattle.std.specs.Prelude.{◌==◌, option_and_then, position}
+use Rattle.std.specs.Prelude.{nat_eq, option_and_then, position}
 use Rattle.std.specs.Option.{option_map}
 use Rattle.std.proofs.lemmas.List.{drop_more, drop_all, append-nil}
 use Rattle.circuit.specs.declared.netlist.Circuit.{Circuit}
@@ -20,11 +20,11 @@ front_none (Some more) = refl
 
 -- ---- columns
 
-columns_cons : (nets : List ℕ) (input : ℕ) (inputs : List ℕ) (n : ℕ) → position (λ net. net == input) nets ≡ Some n → columns_of nets (input ∷ inputs) ≡ option_map (λ ns. n ∷ ns) (columns_of nets inputs)
+columns_cons : (nets : List ℕ) (input : ℕ) (inputs : List ℕ) (n : ℕ) → position (nat_eq input) nets ≡ Some n → columns_of nets (input ∷ inputs) ≡ option_map (λ ns. n ∷ ns) (columns_of nets inputs)
 unfolding columns_of
 columns_cons nets input inputs n e = ap (option_and_then (λ n. option_map (λ ns. n ∷ ns) (columns_of nets inputs))) e
 
-columns_fail : (nets : List ℕ) (input : ℕ) (inputs : List ℕ) → position (λ net. net == input) nets ≡ None → columns_of nets (input ∷ inputs) ≡ None
+columns_fail : (nets : List ℕ) (input : ℕ) (inputs : List ℕ) → position (nat_eq input) nets ≡ None → columns_of nets (input ∷ inputs) ≡ None
 unfolding columns_of
 columns_fail nets input inputs e = ap (option_and_then (λ n. option_map (λ ns. n ∷ ns) (columns_of nets inputs))) e
 
@@ -33,13 +33,13 @@ unfolding columns_of
 columns_none nets = refl
 
 module _ (nets inputs done : List ℕ) (i : ℕ) (invariant : columns_of nets inputs ≡ option_map (λ more. done ++ more) (columns_of nets (drop i inputs))) where
-  pub columns_step : i < length inputs → (n : ℕ) → position (λ net. net == get_or inputs i 0) nets ≡ Some n → columns_of nets inputs ≡ option_map (λ more. (done ++ n ∷ []) ++ more) (columns_of nets (drop (i + 1) inputs))
+  pub columns_step : i < length inputs → (n : ℕ) → position (nat_eq (get_or inputs i 0)) nets ≡ Some n → columns_of nets inputs ≡ option_map (λ more. (done ++ n ∷ []) ++ more) (columns_of nets (drop (i + 1) inputs))
   columns_step inside n e =
       invariant ∙ ap (λ rest. option_map (λ more. done ++ more) (columns_of nets rest)) (drop_more inputs i 0 inside)
       ∙ ap (option_map (λ more. done ++ more)) (columns_cons nets (get_or inputs i 0) (drop (i + 1) inputs) n e)
       ∙ front_onto done n (columns_of nets (drop (i + 1) inputs))
 
-  pub columns_stop : i < length inputs → position (λ net. net == get_or inputs i 0) nets ≡ None → columns_of nets inputs ≡ None
+  pub columns_stop : i < length inputs → position (nat_eq (get_or inputs i 0)) nets ≡ None → columns_of nets inputs ≡ None
   columns_stop inside e =
       invariant ∙ ap (λ rest. option_map (λ more. done ++ more) (columns_of nets rest)) (drop_more inputs i 0 inside)
       ∙ ap (option_map (λ more. done ++ more)) (columns_fail nets (get_or inputs i 0) (drop (i + 1) inputs) e)

@@ -1,8 +1,10 @@
 -- The line that names the inputs.
-use Rattle.std.specs.Prelude.{ℕ, ◌==◌, List, [], ◌∷◌, length, map, position, Option, Some, None, option_and_then, bytes_eq, slice_get, if◌then◌else◌}
+use Rattle.std.specs.Prelude.{◌≡◌, ℕ, ◌==◌, Bool, List, [], ◌∷◌, length, map, position, Option, Some, None, option_and_then, bytes_eq, nat_eq, slice_get, if◌then◌else◌}
+use Rattle.std.specs.Map.{lookup}
 use Rattle.std.specs.Option.{option_map}
 use Rattle.circuit.specs.declared.netlist.Circuit.{Circuit}
 use Rattle.circuit.specs.declared.netlist.Net.{Net}
+use Rattle.circuit.specs.declared.item.Item.{Item}
 use Rattle.circuit.specs.declared.item.ItemKind.{ItemKind}
 use Rattle.circuit.specs.declared.item.ItemKind.TheVariants as item
 use Rattle.stimulus_blocks.specs.Courses.{Course}
@@ -12,9 +14,12 @@ abbrev pub net_of_kind : ItemKind → Option ℕ
 net_of_kind (item.Node net lsb_at input output) = Some net
 net_of_kind (item.Memory m) = None
 
+abbrev pub item_names : List Item → List (List ℕ)
+item_names items = map (λ i. i.name) items
+
 -- the net that is a node of this name
 abbrev pub net_named : Circuit → List ℕ → Option ℕ
-net_named c name = option_and_then (λ n. option_and_then (λ i. net_of_kind i.kind) (slice_get c.items n)) (position (λ i. bytes_eq i.name name) c.items)
+net_named c name = option_and_then (λ n. option_and_then (λ i. net_of_kind i.kind) (slice_get c.items n)) (position (bytes_eq name) (item_names c.items))
 
 -- the nets that words name, where each names one
 unfoldable pub nets_named : Circuit → List (List ℕ) → Option (List ℕ)
@@ -24,7 +29,11 @@ nets_named c (word ∷ words) = option_and_then (λ net. option_map (λ nets. ne
 -- the column of each input: the place of its net among the nets that are named, where it is there
 unfoldable pub columns_of : List ℕ → List ℕ → Option (List ℕ)
 columns_of nets [] = Some []
-columns_of nets (input ∷ inputs) = option_and_then (λ column. option_map (λ columns. column ∷ columns) (columns_of nets inputs)) (position (λ net. net == input) nets)
+columns_of nets (input ∷ inputs) = option_and_then (λ column. option_map (λ columns. column ∷ columns) (columns_of nets inputs)) (position (nat_eq input) nets)
+
+-- a table tells of each key the first place at which it stands in a list
+abbrev pub TellsPlaces : {K : Type 0} → (K → K → Bool) → List K → List (K × ℕ) → Type 0
+TellsPlaces {K} eq keys places = (key : K) → lookup (eq key) places ≡ position (eq key) keys
 
 abbrev pub width_where : Option Net → ℕ
 width_where None = 0

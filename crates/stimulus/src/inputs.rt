@@ -1,26 +1,26 @@
 //! The line that names the inputs.
-ghost use Rattle.std.specs.Prelude.{◌≡◌, ◌==◌, IfOk, bytes_eq, map, position};
-ghost use Rattle.std.specs.Option.{option_map};
-ghost use Rattle.stimulus.specs.Inputs.{columns_of, inputs_named, net_named, net_of_kind, nets_named, width_of};
+ghost use Rattle.std.specs.Prelude.{◌≡◌, ◌++◌, ◌∷◌, [], IfOk, OnOk, bytes_eq, if◌then◌else◌, map, nat_eq};
+ghost use Rattle.std.specs.Map.{lookup};
+ghost use Rattle.std.specs.Option.{is_some, option_map};
+ghost use Rattle.stimulus.specs.Inputs.{TellsPlaces, columns_of, inputs_named, item_names, net_named, net_of_kind, nets_named, width_of};
 
 use circuit::{Circuit, Item, ItemKind};
+use indexmap::IndexMap;
+use name_table::Table;
 use sim_base::NoMemory;
 use sqlite_items::Items;
 use std::alloc::Global;
 use stimulus_blocks::Stimulus;
 
-/// Whether an item has this name.
-fn has_name(item: &Item, name: &[u8]) -> bool
-    ensures { result ≡ bytes_eq item.now.name name.now }
+/// The place of each item by its name; of equal names the first.
+fn places_of_items<'c>(alloc: Global, items: &'c [Item]) -> Result<Table<'c, usize>, NoMemory>
+    ensures { IfOk result (TellsPlaces bytes_eq (item_names items.entry.now)) }
 {
-    item.name.as_bytes() == name
-}
-
-/// The place of the item of this name.
-fn place_named(items: &[Item], name: &[u8]) -> Option<usize>
-    ensures { result ≡ position (λ i. bytes_eq i.name name.now) items.now }
-{
-    items.iter().position(|item| has_name(item, name))
+    let mut places = Table::new(alloc);
+    for at in 0..items.len() {
+        places.add(items[at].name.as_bytes(), at)?;
+    }
+    Ok(places)
 }
 
 /// The net of an item that is a node.
@@ -34,10 +34,11 @@ fn net_of(kind: ItemKind) -> Option<u32>
 }
 
 /// The net that is a node of this name.
-fn net_named(circuit: &Circuit, name: &[u8]) -> Option<u32>
+fn net_named(circuit: &Circuit, places: &Table<usize>, name: &[u8]) -> Option<u32>
+    requires { TellsPlaces bytes_eq (item_names circuit.now.items) places.now }
     ensures { result ≡ net_named circuit.now name.now }
 {
-    let place = place_named(circuit.items.as_slice(), name)?;
+    let place = places.get(name)?;
     let item = circuit.items.get(place)?;
     net_of(item.kind)
 }
@@ -50,9 +51,10 @@ fn nets_named(
 ) -> Result<Option<Vec<u32>>, NoMemory>
     ensures { IfOk result (λ nets. option_map (λ v. v.items) nets ≡ nets_named circuit.now (map (λ x. x.now) words.now)) }
 {
+    let places = places_of_items(alloc, circuit.items.as_slice())?;
     let mut nets = Vec::new(alloc);
     for word in words {
-        match net_named(circuit, word) {
+        match net_named(circuit, &places, word) {
             Some(net) => nets.push(net)?,
             None => return Ok(None),
         }
@@ -60,20 +62,35 @@ fn nets_named(
     Ok(Some(nets))
 }
 
-/// The place of a net among others.
-fn column_of(nets: &[u32], input: u32) -> Option<usize>
-    ensures { result ≡ position (λ net. net == input) nets.now }
+/// Adds a net behind the others with its place, unless it is there.
+fn add_net(places: &mut IndexMap<u32, usize>, net: u32, at: usize) -> Result<(), NoMemory>
+    ensures { OnOk result (places.new.entries ≡ (if is_some (lookup (nat_eq net) places.old.entries) then places.old.entries else places.old.entries ++ (net, at) ∷ [])) }
 {
-    nets.iter().position(|net| *net == input)
+    if !places.contains_key(&net) {
+        places.insert(net, at)?;
+    }
+    Ok(())
+}
+
+/// The first place of each net among others.
+fn places_of_nets(alloc: Global, nets: &[u32]) -> Result<IndexMap<u32, usize>, NoMemory>
+    ensures { IfOk result (λ places. TellsPlaces nat_eq nets.now places.entries) }
+{
+    let mut places = IndexMap::new(alloc);
+    for at in 0..nets.len() {
+        add_net(&mut places, nets[at], at)?;
+    }
+    Ok(places)
 }
 
 /// The place of each input among the nets, where it is there.
 fn columns_of(alloc: Global, nets: &[u32], inputs: &[u32]) -> Result<Option<Vec<usize>>, NoMemory>
     ensures { IfOk result (λ columns. option_map (λ v. v.items) columns ≡ columns_of nets.now inputs.now) }
 {
+    let places = places_of_nets(alloc, nets)?;
     let mut columns = Vec::new(alloc);
     for input in inputs {
-        match column_of(nets, *input) {
+        match places.get(input).copied() {
             Some(column) => columns.push(column)?,
             None => return Ok(None),
         }

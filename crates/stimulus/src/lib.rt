@@ -2,12 +2,14 @@
 #![tactic(auto)]
 
 mod inputs;
+mod laws;
 mod reading;
 mod run;
 mod steps;
 mod stop;
 mod values;
 
+pub use laws::law_of_inputs;
 pub use reading::read;
 pub use run::Run;
 pub use stimulus_blocks::{Place, Stimulus};
