@@ -87,6 +87,7 @@ fn flush<O: Sink>(text: &mut Vec<u8>, out: &mut O) -> Result<(), TraceFault>
 
 /// Hands the text to the output where it is long enough.
 fn flush_long<O: Sink>(text: &mut Vec<u8>, out: &mut O) -> Result<(), TraceFault>
+    ensures short { IfOk result (λ _. length text.new.items < 65536) }
     ensures ok { IfOk result (λ _. HasLeft (O.seen out.old).held (O.seen out.new).held text.old.items text.new.items) }
     ensures begun { IsSentInPart (O.seen out.old).held (O.seen out.new).held text.old.items }
     ensures write { IsErrOf result TraceFault.Write → Rose (O.seen out.old).faults (O.seen out.new).faults }
