@@ -1,0 +1,4 @@
+pub mod Origins
+pub mod Marks
+pub mod Starts
+pub mod Chains

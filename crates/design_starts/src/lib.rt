@@ -1,0 +1,11 @@
+//! The start values of registers, from the digits of `\init` on the nets that they drive.
+#![tactic(auto)]
+
+mod chains;
+mod marks;
+mod places;
+mod starts;
+mod taken;
+
+pub use marks::{Mark, marks_of};
+pub use starts::with_starts;
