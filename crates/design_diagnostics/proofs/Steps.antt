@@ -9,7 +9,7 @@ use Rattle.design_parts.specs.Parts.{Fails, Made, both_made, first_fault, give, 
 use Rattle.design_parts.specs.declared.refusal.Refusal.{Refusal}
 use Rattle.design_parts.proofs.Runs.{give_ok, guard_fails, guard_ok, made_none}
 pub use Rattle.design_parts.proofs.Runs.{says_fails}
-use Rattle.design_wires.specs.declared.here.Here.{Here}
+use Rattle.design_wires.specs.Places.{InstancePlace}
 use Rattle.design_cells.specs.Joined.{Joined}
 use Rattle.design_diagnostics.specs.Diagnostics.{silent_made, taken}
 use Rattle.design_diagnostics.specs.Readings.{cell_text, shown_byte, shown_path}
@@ -37,7 +37,7 @@ pub path_none : (begins : Bool) → shown_path begins [] ≡ []
 unfolding shown_path
 path_none begins = refl
 
-module _ (here : Here) (name : List ℕ) (attributes : List Attribute) (r : Option Reading) (ss : List Setting) (js : List Joined) (m : Made) where
+module _ (here : InstancePlace) (name : List ℕ) (attributes : List Attribute) (r : Option Reading) (ss : List Setting) (js : List Joined) (m : Made) where
   pub taken_ok : first_fault (silent_checks here name r ss js m) ≡ None → run (taken here name attributes r ss js) m ≡ Ok (both_made m (silent_made r (cell_text here name) attributes ss js))
   unfolding taken
   taken_ok h =

@@ -11,7 +11,7 @@ use Rattle.rtlil_tree.specs.declared.module.Setting.{Setting}
 use Rattle.rtlil_signals.specs.Signals.{Scope}
 use Rattle.design_parts.specs.Parts.{Made, Walk, give, guard, none_made}
 use Rattle.design_wires.specs.Texts.{source_text}
-use Rattle.design_wires.specs.declared.here.Here.{Here}
+use Rattle.design_wires.specs.Places.{InstancePlace}
 use Rattle.design_cells.specs.Cells.{signal_or_zeros}
 use Rattle.design_cells.specs.Joined.{Joined, joined_at, joined_in}
 use Rattle.design_memory.specs.Settings.{is_set}
@@ -54,9 +54,9 @@ abbrev pub silent_made : Option Reading → List ℕ → List Attribute → List
 silent_made None text attributes ss js = none_made
 silent_made (Some r) text attributes ss js = record none_made { diags = diagnostic_of r text attributes ss js ∷ [] }
 
-unfoldable pub taken : Here → List ℕ → List Attribute → Option Reading → List Setting → List Joined → Walk
+unfoldable pub taken : InstancePlace → List ℕ → List Attribute → Option Reading → List Setting → List Joined → Walk
 taken here name attributes r ss js = guard (silent_checks here name r ss js) (give (λ m. silent_made r (cell_text here name) attributes ss js))
 
 -- a cell of a type that drives nothing, as it is written in an instance
-abbrev pub silent_cell : Here → Scope → SilentType → Cell → Walk
+abbrev pub silent_cell : InstancePlace → Scope → SilentType → Cell → Walk
 silent_cell here scope silent c = taken here c.name c.attributes (reading_of silent c.settings) c.settings (joined_in scope c.connections)

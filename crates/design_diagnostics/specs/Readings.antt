@@ -6,7 +6,7 @@ use Rattle.circuit.specs.declared.diagnostic.DiagKind.TheVariants as diag
 use Rattle.rtlil_tree.specs.declared.module.Setting.{Setting}
 use Rattle.rtlil_signals.specs.Values.{const_value}
 use Rattle.design_wires.specs.Texts.{const_text}
-use Rattle.design_wires.specs.declared.here.Here.{Here}
+use Rattle.design_wires.specs.Places.{InstancePlace}
 use Rattle.design_diagnostics.specs.Names.{parameter_name}
 use Rattle.design_diagnostics.specs.declared.names.Parameter.{Parameter}
 use Rattle.design_diagnostics.specs.declared.names.Parameter.TheVariants as parameter
@@ -73,5 +73,5 @@ shown_path begins [] = []
 shown_path begins (c ∷ cs) = shown_byte begins c ++ shown_path (c == 32) cs
 
 -- the text of the cell of a name
-abbrev pub cell_text : Here → List ℕ → List ℕ
-cell_text here name = shown_path true (here.prefix.now ++ name)
+abbrev pub cell_text : InstancePlace → List ℕ → List ℕ
+cell_text here name = shown_path true (here.prefix ++ name)

@@ -8,8 +8,8 @@ use Rattle.circuit.specs.declared.fault.DesignKind.TheVariants as kind
 use Rattle.rtlil_tree.specs.declared.module.Setting.{Setting}
 use Rattle.design_parts.specs.Parts.{Check, Made, at, check}
 use Rattle.design_wires.specs.Connects.{or_none}
+use Rattle.design_wires.specs.Places.{InstancePlace}
 use Rattle.design_wires.specs.Wires.{longest_name}
-use Rattle.design_wires.specs.declared.here.Here.{Here}
 use Rattle.design_cells.specs.Joined.{Joined}
 use Rattle.design_cells.specs.Rules as cells
 use Rattle.design_diagnostics.specs.Names.{port_name}
@@ -70,11 +70,11 @@ has_room (Some r) text m = cells.has_room m && nat_le (length text) longest_name
 
 -- ---- a cell that drives nothing
 
-unfoldable pub silent_checks : Here → List ℕ → Option Reading → List Setting → List Joined → Made → List Check
+unfoldable pub silent_checks : InstancePlace → List ℕ → Option Reading → List Setting → List Joined → Made → List Check
 silent_checks here name r ss js m =
-    check (parameters_fit r ss) (at kind.BadParameter here.owner.now name)
-    ∷ check (are_known js) (at kind.UnknownName here.owner.now name)
-    ∷ check (are_joined r (number_at ss parameter.TriggerWidth) js) (at kind.Width here.owner.now name)
-    ∷ check (are_narrow js && is_narrow_trigger r (number_at ss parameter.TriggerWidth)) (at kind.TooWide here.owner.now name)
-    ∷ check (has_room r (cell_text here name) m) (at kind.TooLarge here.owner.now name)
+    check (parameters_fit r ss) (at kind.BadParameter here.owner name)
+    ∷ check (are_known js) (at kind.UnknownName here.owner name)
+    ∷ check (are_joined r (number_at ss parameter.TriggerWidth) js) (at kind.Width here.owner name)
+    ∷ check (are_narrow js && is_narrow_trigger r (number_at ss parameter.TriggerWidth)) (at kind.TooWide here.owner name)
+    ∷ check (has_room r (cell_text here name) m) (at kind.TooLarge here.owner name)
     ∷ []

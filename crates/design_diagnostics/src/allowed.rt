@@ -3,6 +3,7 @@ ghost use Rattle.std.specs.Prelude.{◌≡◌, ◌≤◌, OnOk, IfOk, true};
 ghost use Rattle.circuit.specs.Valid.{widest};
 ghost use Rattle.design_parts.specs.Parts.{Passes};
 ghost use Rattle.design_wires.specs.Connects.{or_none};
+ghost use Rattle.design_wires.specs.Places.{seen_here};
 ghost use Rattle.circuit.specs.Signal.{sig_width};
 ghost use Rattle.design_cells.specs.Joined.{seen_port, seen_ports};
 ghost use Rattle.design_diagnostics.specs.Readings as readings;
@@ -155,8 +156,8 @@ pub(crate) fn allowed(
     draft: &Draft,
 ) -> Result<(), Refusal>
     requires width { width ≡ readings.number_at settings.now parameter.TriggerWidth }
-    requires text { text.now ≡ readings.cell_text here.now name.now }
-    ensures passes { Passes (spec.silent_checks here.now name.now reading settings.now (seen_ports joined.now) draft.now) result }
+    requires text { text.now ≡ readings.cell_text (seen_here here.now) name.now }
+    ensures passes { Passes (spec.silent_checks (seen_here here.now) name.now reading settings.now (seen_ports joined.now) draft.now) result }
     ensures narrow { OnOk result (readings.has_trigger reading ≡ true → width ≤ widest) }
 {
     if !parameters_fit(reading, settings, width) {

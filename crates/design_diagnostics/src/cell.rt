@@ -1,6 +1,7 @@
 //! A cell that drives nothing.
 ghost use Rattle.std.specs.Prelude.{◌≡◌, ◌<◌, ◌^◌, IfOk, OnOk, true};
 ghost use Rattle.design_parts.specs.Parts.{Runs, both_made};
+ghost use Rattle.design_wires.specs.Places.{seen_here};
 ghost use Rattle.design_cells.specs.Joined.{seen_ports};
 ghost use Rattle.design_diagnostics.specs.Readings as readings;
 ghost use Rattle.design_diagnostics.specs.declared.names.Parameter.TheVariants as parameter;
@@ -76,7 +77,7 @@ fn take_cell(
     ports: &[JoinedPort],
     draft: &mut Draft,
 ) -> Result<(), Refusal>
-    ensures { Runs (spec.taken here.now name.now attributes.now reading settings.now (seen_ports ports.now)) draft.old result draft.new }
+    ensures { Runs (spec.taken (seen_here here.now) name.now attributes.now reading settings.now (seen_ports ports.now)) draft.old result draft.new }
 {
     let text = cell_text(alloc, here, name)?;
     let width = number_at(alloc, settings, Parameter::TriggerWidth)?;
@@ -102,7 +103,7 @@ pub fn silent_cell(
     cell: &Cell,
     draft: &mut Draft,
 ) -> Result<(), Refusal>
-    ensures { Runs (spec.silent_cell here.now scope.now silent cell.now) draft.old result draft.new }
+    ensures { Runs (spec.silent_cell (seen_here here.now) scope.now silent cell.now) draft.old result draft.new }
 {
     let settings = cell.settings.as_slice();
     let reading = reading_of(alloc, silent, settings)?;

@@ -1,6 +1,7 @@
 //! How a cell that drives nothing is read.
 ghost use Rattle.std.specs.Prelude.{◌≡◌, ◌-◌, ◌^◌, ◌++◌, IfOk, OnOk, min, true};
 ghost use Rattle.std.specs.Option.{option_copied};
+ghost use Rattle.design_wires.specs.Places.{seen_here};
 ghost use Rattle.design_diagnostics.specs.declared.names.Parameter.TheVariants as parameter;
 ghost use Rattle.design_diagnostics.specs.Readings as spec;
 
@@ -154,7 +155,7 @@ fn shown_path(alloc: Global, path: &[u8]) -> Result<Name, NoMemory>
 
 /// The text of the cell of a name.
 pub(crate) fn cell_text(alloc: Global, here: &Here, name: &[u8]) -> Result<Name, NoMemory>
-    ensures { IfOk result (λ text. text ≡ spec.cell_text here.now name.now) }
+    ensures { IfOk result (λ text. text ≡ spec.cell_text (seen_here here.now) name.now) }
 {
     let mut path = Vec::from_slice(alloc, here.prefix)?;
     path.extend_from_slice(name)?;

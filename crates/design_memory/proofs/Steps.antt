@@ -11,7 +11,7 @@ use Rattle.design_parts.specs.Parts.{Fails, Made, both_made, first_fault, give, 
 use Rattle.design_parts.specs.declared.refusal.Refusal.{Refusal}
 use Rattle.design_parts.proofs.Runs.{give_ok, guard_fails, guard_ok}
 pub use Rattle.design_parts.proofs.Runs.{says_fails}
-use Rattle.design_wires.specs.declared.here.Here.{Here}
+use Rattle.design_wires.specs.Places.{InstancePlace}
 use Rattle.design_cells.specs.Joined.{Joined}
 use Rattle.design_memory.specs.Memories.{memory_made, taken}
 use Rattle.design_memory.specs.Rules.{memory_checks}
@@ -27,7 +27,7 @@ no_part at width = refl
 pub made_memory : (m : Made) (x : Mem) (ds : List Drive) (is : List Item) → both_made m (record none_made { mems = x ∷ []; drives = ds; items = is }) ≡ (record m { mems = m.mems ++ x ∷ []; drives = m.drives ++ ds; items = m.items ++ is })
 made_memory m x ds is = simp (append-nil, add_none)
 
-module _ (here : Here) (name : List ℕ) (attributes : List Attribute) (ss : List Setting) (cs : List Connection) (js : List Joined) (m : Made) where
+module _ (here : InstancePlace) (name : List ℕ) (attributes : List Attribute) (ss : List Setting) (cs : List Connection) (js : List Joined) (m : Made) where
   pub taken_ok : first_fault (memory_checks here name ss cs js m) ≡ None → run (taken here name attributes ss cs js) m ≡ Ok (both_made m (memory_made here.shown (item_identifier ss) attributes (shape_of ss) (values_of ss) js m))
   unfolding taken
   taken_ok h =

@@ -21,9 +21,8 @@ use Rattle.rtlil_signals.specs.Spans.{value_part}
 use Rattle.rtlil_signals.specs.declared.drives.Source.TheVariants as source
 use Rattle.design_parts.specs.Parts.{Made, Walk, give, guard, none_made}
 use Rattle.design_wires.specs.Texts.{source_text}
+use Rattle.design_wires.specs.Places.{InstancePlace, ShownPlace}
 use Rattle.design_wires.specs.Wires.{is_public, shown_name}
-use Rattle.design_wires.specs.declared.here.Here.{Here}
-use Rattle.design_wires.specs.declared.here.Shown.{Shown}
 use Rattle.design_cells.specs.Joined.{Joined, joined_at, joined_in, pieces_in}
 use Rattle.design_memory.specs.Names.{port_name}
 use Rattle.design_memory.specs.Rules.{memory_checks}
@@ -81,7 +80,7 @@ read_drives mem s js i = driven_from (by_at (source.Read mem i)) 0 (sig_part (i 
 
 -- ---- the item
 
-abbrev pub memory_item : Shown → ℕ → List ℕ → List Attribute → Item
+abbrev pub memory_item : ShownPlace → ℕ → List ℕ → List Attribute → Item
 memory_item shown mem name attributes = record {
   name = shown_name shown name;
   scope = shown.scope;
@@ -90,7 +89,7 @@ memory_item shown mem name attributes = record {
   first_slot = 0;
 }
 
-abbrev pub memory_items : Option Shown → ℕ → Option (List ℕ) → List Attribute → List Item
+abbrev pub memory_items : Option ShownPlace → ℕ → Option (List ℕ) → List Attribute → List Item
 memory_items None mem name attributes = []
 memory_items (Some shown) mem None attributes = []
 memory_items (Some shown) mem (Some name) attributes = if is_public name then memory_item shown mem name attributes ∷ [] else []
@@ -100,16 +99,16 @@ memory_items (Some shown) mem (Some name) attributes = if is_public name then me
 abbrev pub drives_of : ℕ → Shape → List Joined → ℕ → List Drive
 drives_of mem s js count = flat_map (read_drives mem s js) (range_with_len 0 count)
 
-abbrev pub memory_made : Option Shown → Option (List ℕ) → List Attribute → Shape → Values → List Joined → Made → Made
+abbrev pub memory_made : Option ShownPlace → Option (List ℕ) → List Attribute → Shape → Values → List Joined → Made → Made
 memory_made shown identifier attributes s v js m = record none_made {
   mems = memory_of s v js ∷ [];
   drives = drives_of (length m.mems) s js s.reads;
   items = memory_items shown (length m.mems) identifier attributes;
 }
 
-unfoldable pub taken : Here → List ℕ → List Attribute → List Setting → List Connection → List Joined → Walk
+unfoldable pub taken : InstancePlace → List ℕ → List Attribute → List Setting → List Connection → List Joined → Walk
 taken here name attributes ss cs js = guard (memory_checks here name ss cs js) (give (memory_made here.shown (item_identifier ss) attributes (shape_of ss) (values_of ss) js))
 
 -- a memory as it is written in an instance
-abbrev pub memory : Here → Scope → Cell → Walk
+abbrev pub memory : InstancePlace → Scope → Cell → Walk
 memory here scope c = taken here c.name c.attributes c.settings c.connections (joined_in scope c.connections)

@@ -14,9 +14,8 @@ use Rattle.rtlil_tree.specs.declared.sig.Sig.{Sig}
 use Rattle.rtlil_signals.specs.Signals.{is_named, sig_pieces}
 use Rattle.design_parts.specs.Parts.{Check, Made, at, check}
 use Rattle.design_wires.specs.Connects.{or_none}
+use Rattle.design_wires.specs.Places.{InstancePlace, ShownPlace}
 use Rattle.design_wires.specs.Wires.{name_fits}
-use Rattle.design_wires.specs.declared.here.Here.{Here}
-use Rattle.design_wires.specs.declared.here.Shown.{Shown}
 use Rattle.design_cells.specs.Joined.{Joined}
 use Rattle.design_cells.specs.Rules as cells
 use Rattle.design_memory.specs.Names.{needed, port_name, port_named, port_width, ports}
@@ -99,11 +98,11 @@ are_narrow s = nat_le s.width widest && within s ports
 
 -- ---- room
 
-abbrev pub identifier_fits : Option Shown → Option (List ℕ) → Bool
+abbrev pub identifier_fits : Option ShownPlace → Option (List ℕ) → Bool
 identifier_fits shown None = true
 identifier_fits shown (Some name) = name_fits shown name
 
-unfoldable pub has_room : Option Shown → Option (List ℕ) → Shape → Made → Bool
+unfoldable pub has_room : Option ShownPlace → Option (List ℕ) → Shape → Made → Bool
 has_room shown name s m =
     cells.has_room m
     && (nat_le (sum_by (λ x. x.size) m.mems + s.size) most_rows
@@ -112,11 +111,11 @@ has_room shown name s m =
 
 -- ---- a memory
 
-unfoldable pub memory_checks : Here → List ℕ → List Setting → List Connection → List Joined → Made → List Check
+unfoldable pub memory_checks : InstancePlace → List ℕ → List Setting → List Connection → List Joined → Made → List Check
 memory_checks here name ss cs js m =
-    check (parameters_fit ss cs) (at kind.BadParameter here.owner.now name)
-    ∷ check (are_known js) (at kind.UnknownName here.owner.now name)
-    ∷ check (are_joined (shape_of ss) js) (at kind.Width here.owner.now name)
-    ∷ check (are_narrow (shape_of ss)) (at kind.TooWide here.owner.now name)
-    ∷ check (has_room here.shown (item_identifier ss) (shape_of ss) m) (at kind.TooLarge here.owner.now name)
+    check (parameters_fit ss cs) (at kind.BadParameter here.owner name)
+    ∷ check (are_known js) (at kind.UnknownName here.owner name)
+    ∷ check (are_joined (shape_of ss) js) (at kind.Width here.owner name)
+    ∷ check (are_narrow (shape_of ss)) (at kind.TooWide here.owner name)
+    ∷ check (has_room here.shown (item_identifier ss) (shape_of ss) m) (at kind.TooLarge here.owner name)
     ∷ []

@@ -1,10 +1,11 @@
 //! The checks of a memory.
-ghost use Rattle.std.specs.Prelude.{◌≡◌, ◌+◌, ◌*◌, ◌<◌, ◌≤◌, ◌^◌, IfOk, OnOk, length, sum_by, true};
+ghost use Rattle.std.specs.Prelude.{◌≡◌, ◌+◌, ◌*◌, ◌<◌, ◌≤◌, ◌^◌, IfOk, OnOk, length, option_map, sum_by, true};
 ghost use Rattle.std.specs.List.{list_all};
 ghost use Rattle.std.specs.Option.{is_some};
 ghost use Rattle.circuit.specs.Valid.{widest};
 ghost use Rattle.design_parts.specs.Parts.{Passes};
 ghost use Rattle.design_wires.specs.Connects.{or_none};
+ghost use Rattle.design_wires.specs.Places.{seen_here, seen_shown};
 ghost use Rattle.design_cells.specs.Joined.{seen_port, seen_ports};
 ghost use Rattle.design_memory.specs.Names.{port_named, port_width};
 ghost use Rattle.design_memory.specs.Settings.{item_identifier, setting_at, shape_of, values_of};
@@ -169,7 +170,7 @@ fn are_narrow(shape: &Shape) -> bool
 // ---- room
 
 fn identifier_fits(shown: &Option<Shown>, identifier: &Option<Name>) -> bool
-    ensures { result ≡ spec.identifier_fits shown.now identifier.now }
+    ensures { result ≡ spec.identifier_fits (option_map seen_shown shown.now) identifier.now }
 {
     match identifier {
         Some(name) => name_fits(shown, name.as_bytes()),
@@ -179,7 +180,7 @@ fn identifier_fits(shown: &Option<Shown>, identifier: &Option<Name>) -> bool
 
 #[tactic(auto, unfolding(crate::specs::Rules::has_room))]
 fn has_room(shown: &Option<Shown>, identifier: &Option<Name>, shape: &Shape, draft: &Draft) -> bool
-    ensures value { result ≡ spec.has_room shown.now identifier.now shape.now draft.now }
+    ensures value { result ≡ spec.has_room (option_map seen_shown shown.now) identifier.now shape.now draft.now }
     ensures count { result ≡ true → length draft.now.mems < 2 ^ 32 }
     ensures rows { result ≡ true → sum_by (λ m. m.size) draft.now.mems + shape.now.size ≤ spec.most_rows }
     ensures bits { result ≡ true → sum_by (λ m. m.size * m.width) draft.now.mems + shape.now.size * shape.now.width ≤ spec.most_memory_bits }
@@ -208,7 +209,7 @@ pub(crate) fn allowed(
     requires shape { shape.now ≡ shape_of settings.now }
     requires values { values.now ≡ values_of settings.now }
     requires identifier { identifier.now ≡ item_identifier settings.now }
-    ensures passes { Passes (spec.memory_checks here.now name.now settings.now connections.now (seen_ports joined.now) draft.now) result }
+    ensures passes { Passes (spec.memory_checks (seen_here here.now) name.now settings.now connections.now (seen_ports joined.now) draft.now) result }
     ensures offset { OnOk result (shape.now.offset < 2 ^ 32) }
     ensures address { OnOk result (shape.now.address_width < 2 ^ 32) }
     ensures width { OnOk result (shape.now.width < 2 ^ 32) }

@@ -1,6 +1,7 @@
 //! A memory.
-ghost use Rattle.std.specs.Prelude.{◌≡◌, ◌+◌, ◌*◌, ◌<◌, ◌≤◌, ◌^◌, IfOk, OnOk, length, sum_by};
+ghost use Rattle.std.specs.Prelude.{◌≡◌, ◌+◌, ◌*◌, ◌<◌, ◌≤◌, ◌^◌, IfOk, OnOk, length, option_map, sum_by};
 ghost use Rattle.design_parts.specs.Parts.{Runs, both_made};
+ghost use Rattle.design_wires.specs.Places.{seen_here, seen_shown};
 ghost use Rattle.design_cells.specs.Joined.{seen_ports};
 ghost use Rattle.design_memory.specs.Rules.{most_memory_bits, most_rows};
 ghost use Rattle.design_memory.specs.Settings as settings;
@@ -66,7 +67,7 @@ fn push_memory(
     requires count { length draft.old.mems < 2 ^ 32 }
     requires rows { sum_by (λ m. m.size) draft.old.mems + shape.now.size ≤ most_rows }
     requires bits { sum_by (λ m. m.size * m.width) draft.old.mems + shape.now.size * shape.now.width ≤ most_memory_bits }
-    ensures { OnOk result (draft.new ≡ both_made draft.old (spec.memory_made shown.now identifier.now attributes.now shape.now values.now (seen_ports ports.now) draft.old)) }
+    ensures { OnOk result (draft.new ≡ both_made draft.old (spec.memory_made (option_map seen_shown shown.now) identifier.now attributes.now shape.now values.now (seen_ports ports.now) draft.old)) }
 {
     let number = draft.memory_count() as u32;
     draft.push_memory(memory_of(alloc, shape, values, ports)?)?;
@@ -85,7 +86,7 @@ fn take_memory(
     ports: &[JoinedPort],
     draft: &mut Draft,
 ) -> Result<(), Refusal>
-    ensures { Runs (spec.taken here.now name.now attributes.now settings.now connections.now (seen_ports ports.now)) draft.old result draft.new }
+    ensures { Runs (spec.taken (seen_here here.now) name.now attributes.now settings.now connections.now (seen_ports ports.now)) draft.old result draft.new }
 {
     let identifier = item_identifier(alloc, settings)?;
     let shape = shape_of(alloc, settings)?;
@@ -129,7 +130,7 @@ pub fn memory(
     cell: &Cell,
     draft: &mut Draft,
 ) -> Result<(), Refusal>
-    ensures { Runs (spec.memory here.now scope.now cell.now) draft.old result draft.new }
+    ensures { Runs (spec.memory (seen_here here.now) scope.now cell.now) draft.old result draft.new }
 {
     let ports = joined_in(alloc, scope, cell.connections.as_slice())?;
     take_memory(

@@ -1,6 +1,7 @@
 //! The item of a memory.
-ghost use Rattle.std.specs.Prelude.{◌≡◌, ◌++◌, IfOk, OnOk, true};
+ghost use Rattle.std.specs.Prelude.{◌≡◌, ◌++◌, IfOk, OnOk, option_map, true};
 ghost use Rattle.std.specs.List.{list_all};
+ghost use Rattle.design_wires.specs.Places.{seen_shown};
 ghost use Rattle.design_wires.specs.Wires.{is_public};
 ghost use Rattle.design_memory.specs.Memories.{memory_item, memory_items};
 ghost use Rattle.design_memory.specs.Settings as spec;
@@ -70,7 +71,7 @@ fn memory_item(
     attributes: &[Attribute],
 ) -> Result<Item, NoMemory>
     requires { is_public identifier.now ≡ true }
-    ensures { IfOk result (λ item. item ≡ memory_item shown.now memory identifier.now attributes.now) }
+    ensures { IfOk result (λ item. item ≡ memory_item (seen_shown shown.now) memory identifier.now attributes.now) }
 {
     let name = shown_name(alloc, shown, identifier.as_bytes())?;
     let src = source_text(alloc, attributes)?;
@@ -92,7 +93,7 @@ pub(crate) fn show(
     attributes: &[Attribute],
     draft: &mut Draft,
 ) -> Result<(), NoMemory>
-    ensures { OnOk result (draft.new ≡ (record draft.old { items = draft.old.items ++ memory_items shown.now memory identifier.now attributes.now })) }
+    ensures { OnOk result (draft.new ≡ (record draft.old { items = draft.old.items ++ memory_items (option_map seen_shown shown.now) memory identifier.now attributes.now })) }
 {
     let Some(shown) = shown else {
         return Ok(());

@@ -11,6 +11,7 @@ use Rattle.circuit.specs.declared.netlist.Circuit.{Circuit}
 use Rattle.circuit.specs.declared.netlist.Drive.{Drive}
 use Rattle.circuit.specs.declared.netlist.Net.{Net}
 use Rattle.circuit.specs.declared.register.Reg.{Reg}
+use Rattle.rtlil_tree.specs.declared.sig.Const.{Const}
 use Rattle.design_parts.specs.declared.refusal.Refusal.{Refusal}
 use Rattle.design_parts.specs.declared.refusal.Refusal.TheVariants.{At, NoMemory as OutOfMemory}
 
@@ -35,9 +36,11 @@ first_fault (c ∷ cs) = if c.holds then first_fault cs else Some c.fault
 
 -- ---- parts
 
--- lists of a circuit, with the number of instances; items have no slots and no order yet
+-- lists of a circuit, with the start values that are written at its nets and the number of instances; items have no slots and
+-- no order yet, and registers start with 0
 pub record Made : Type 0 where
   pub nets : List Net
+  pub inits : List (Option Const)
   pub drives : List Drive
   pub cells : List Cell
   pub regs : List Reg
@@ -49,12 +52,13 @@ pub record Made : Type 0 where
   pub instances : ℕ
 
 abbrev pub none_made : Made
-none_made = record { nets = []; drives = []; cells = []; regs = []; mems = []; inputs = []; items = []; scopes = []; diags = []; instances = 0 }
+none_made = record { nets = []; inits = []; drives = []; cells = []; regs = []; mems = []; inputs = []; items = []; scopes = []; diags = []; instances = 0 }
 
 -- each list with another one behind it
 abbrev pub both_made : Made → Made → Made
 both_made m n = record {
   nets = m.nets ++ n.nets;
+  inits = m.inits ++ n.inits;
   drives = m.drives ++ n.drives;
   cells = m.cells ++ n.cells;
   regs = m.regs ++ n.regs;

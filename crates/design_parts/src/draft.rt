@@ -7,6 +7,7 @@ ghost use Rattle.circuit.specs.Signal.{sig_width};
 
 use circuit::{Cell, Circuit, Diag, Drive, Item, Mem, Net, Reg, Scope};
 use rtlil_signals::{Source, Span, connect, drive};
+use rtlil_tree::Const;
 use sim_base::NoMemory;
 use sqlite_items::Items;
 use std::alloc::Global;
@@ -14,8 +15,10 @@ use std::marker::Model;
 
 /// The lists of a circuit as far as they are made, with totals that limits are on.
 #[derive(Debug, Drop)]
-pub struct Draft {
+pub struct Draft<'t> {
     circuit: Circuit,
+    /// What is written as the start value of each net, if anything is.
+    inits: Items<Option<Const<'t>>>,
     instances: u64,
     /// The bits of all nets.
     bits: u64,
@@ -25,7 +28,7 @@ pub struct Draft {
     memory_bits: u64,
 }
 
-impl Model for Draft {
+impl<'t> Model for Draft<'t> {
     ghost use Rattle.std.specs.Prelude.{◌≡◌, ◌*◌, sum_by};
     ghost use Rattle.design_parts.specs.Parts.{Made};
 
@@ -33,6 +36,7 @@ impl Model for Draft {
 
     ghost view = { λ d. record {
       nets = d.circuit.nets;
+      inits = d.inits;
       drives = d.circuit.drives;
       cells = d.circuit.cells;
       regs = d.circuit.regs;
@@ -49,8 +53,8 @@ impl Model for Draft {
         × (d.memory_bits ≡ sum_by (λ m. m.size * m.width) d.circuit.mems) };
 }
 
-impl Draft {
-    pub fn new(alloc: Global) -> Draft
+impl<'t> Draft<'t> {
+    pub fn new(alloc: Global) -> Draft<'t>
         ensures { result ≡ none_made }
     {
         Draft {
@@ -65,6 +69,7 @@ impl Draft {
                 scopes: Items::new(alloc),
                 diags: Items::new(alloc),
             },
+            inits: Items::new(alloc),
             instances: 0,
             bits: 0,
             rows: 0,
@@ -162,12 +167,13 @@ impl Draft {
         Ok(())
     }
 
-    /// Appends a net.
-    pub fn push_net(&mut self, net: Net) -> Result<(), NoMemory>
+    /// Appends a net with what is written as its start value.
+    pub fn push_net(&mut self, net: Net, init: Option<Const<'t>>) -> Result<(), NoMemory>
         requires { sum_by (λ n. n.width) self.old.nets + net.width < 2 ^ 64 }
-        ensures { OnOk result (self.new ≡ (record self.old { nets = self.old.nets ++ net ∷ [] })) }
+        ensures { OnOk result (self.new ≡ (record self.old { nets = self.old.nets ++ net ∷ []; inits = self.old.inits ++ init.entry ∷ [] })) }
     {
         let width = net.width as u64;
+        self.inits.push(init)?;
         self.circuit.nets.push(net)?;
         self.bits += width;
         Ok(())
@@ -252,7 +258,7 @@ impl Draft {
 
     /// The lists, and nothing of the number of instances.
     pub fn into_circuit(self) -> Circuit
-        ensures { result ≡ circuit_of self }
+        ensures { result ≡ circuit_of self.entry }
     {
         self.circuit
     }

@@ -1,10 +1,11 @@
 //! The texts of attributes.
 ghost use Rattle.std.specs.Prelude.{◌≡◌, ◌*◌, IfOk, length};
 ghost use Rattle.std.specs.Str.{is_utf8};
+ghost use Rattle.design_wires.specs.Wires.{init_of};
 ghost use Rattle.design_wires.specs.Texts.{bytes_of, const_text, if_text, source_text, value_bytes};
 
 use rtlil_signals::const_bits;
-use rtlil_tree::{Attribute, Const, attribute_value};
+use rtlil_tree::{Attribute, Const, Wire, attribute_value};
 use sim_base::{Bits, Name, NoMemory};
 use std::alloc::Global;
 use std::str::from_utf8;
@@ -71,5 +72,26 @@ pub fn source_text(alloc: Global, attributes: &[Attribute]) -> Result<Option<Nam
     match attribute_value(attributes, b"\\src") {
         Some(constant) => const_text(alloc, constant),
         None => Ok(None),
+    }
+}
+
+/// The same constant of the text.
+fn copied<'t>(constant: &Const<'t>) -> Const<'t>
+    ensures { result ≡ constant.now }
+{
+    match constant {
+        Const::Digits(digits) => Const::Digits(digits.copied()),
+        Const::Integer(number) => Const::Integer(*number),
+        Const::String(text) => Const::String(text.copied()),
+    }
+}
+
+/// What is written as a wire's start value, if anything is.
+pub(crate) fn init_of<'t>(wire: &Wire<'t>) -> Option<Const<'t>>
+    ensures { result ≡ init_of wire.now }
+{
+    match attribute_value(wire.attributes.as_slice(), b"\\init") {
+        Some(constant) => Some(copied(constant)),
+        None => None,
     }
 }

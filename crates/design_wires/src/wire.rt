@@ -1,12 +1,13 @@
 //! The wires of an instance.
-ghost use Rattle.std.specs.Prelude.{◌≡◌, ◌+◌, ◌<◌, ◌≤◌, ◌++◌, ◌∷◌, [], IfOk, None, OnOk, length, sum_by, true};
+ghost use Rattle.std.specs.Prelude.{◌≡◌, ◌+◌, ◌<◌, ◌≤◌, ◌++◌, ◌∷◌, [], IfOk, None, OnOk, length, option_map, sum_by, true};
 ghost use Rattle.design_parts.specs.Parts.{Passes, Runs};
 ghost use Rattle.rtlil_signals.specs.Signals.{net_named};
 ghost use Rattle.rtlil_tree.specs.declared.module.Statement.TheVariants as statement;
+ghost use Rattle.design_wires.specs.Places.{seen_here, seen_shown};
 ghost use Rattle.design_wires.specs.Wires as spec;
 
 use crate::here::{Here, Shown};
-use crate::text::source_text;
+use crate::text::{init_of, source_text};
 use circuit::{DesignKind, Item, ItemKind, Net};
 use design_parts::{Draft, Refusal, refused_at};
 use name_table::Table;
@@ -37,7 +38,7 @@ pub fn is_public(name: &[u8]) -> bool
 /// What a name that begins with `\` is shown as.
 pub fn shown_name(alloc: Global, shown: &Shown, name: &[u8]) -> Result<Name, NoMemory>
     requires { spec.is_public name.now ≡ true }
-    ensures { IfOk result (λ n. n ≡ spec.shown_name shown.now name.now) }
+    ensures { IfOk result (λ n. n ≡ spec.shown_name (seen_shown shown.now) name.now) }
 {
     let mut bytes = Vec::from_slice(alloc, shown.prefix)?;
     bytes.extend_from_slice(&name[1..])?;
@@ -46,7 +47,7 @@ pub fn shown_name(alloc: Global, shown: &Shown, name: &[u8]) -> Result<Name, NoM
 
 /// Whether the name that an identifier is shown as is within the limit, where it is shown.
 pub fn name_fits(shown: &Option<Shown>, name: &[u8]) -> bool
-    ensures { result ≡ spec.name_fits shown.now name.now }
+    ensures { result ≡ spec.name_fits (option_map seen_shown shown.now) name.now }
 {
     let Some(shown) = shown else {
         return true;
@@ -61,7 +62,7 @@ fn has_one_direction(options: &WireOptions) -> bool
 }
 
 fn has_room(shown: &Option<Shown>, wire: &Wire, draft: &Draft) -> bool
-    ensures { result ≡ spec.has_room shown.now wire.now draft.now }
+    ensures { result ≡ spec.has_room (option_map seen_shown shown.now) wire.now draft.now }
 {
     draft.net_count() < MOST_NETS
         && draft.bit_count() as u128 + wire.options.width as u128 <= MOST_NET_BITS as u128
@@ -76,7 +77,7 @@ fn wire_allowed(
     wire: &Wire,
     draft: &Draft,
 ) -> Result<(), Refusal>
-    ensures passes { Passes (spec.wire_checks here.now scope.now wire.now draft.now) result }
+    ensures passes { Passes (spec.wire_checks (seen_here here.now) scope.now wire.now draft.now) result }
     ensures new { OnOk result (net_named scope.now wire.now.name ≡ None) }
     ensures room { OnOk result (length draft.now.nets < spec.most_nets) }
     ensures bits { OnOk result (sum_by (λ n. n.width) draft.now.nets + wire.now.options.width ≤ spec.most_net_bits) }
@@ -98,7 +99,7 @@ fn wire_allowed(
 }
 
 fn wire_net(alloc: Global, here: &Here, wire: &Wire) -> Result<Net, NoMemory>
-    ensures { IfOk result (λ net. net ≡ spec.wire_net here.now wire.now) }
+    ensures { IfOk result (λ net. net ≡ spec.wire_net (seen_here here.now) wire.now) }
 {
     let mut path = Vec::from_slice(alloc, here.prefix)?;
     path.extend_from_slice(wire.name.as_bytes())?;
@@ -110,7 +111,7 @@ fn wire_net(alloc: Global, here: &Here, wire: &Wire) -> Result<Net, NoMemory>
 
 fn node_item(alloc: Global, shown: &Shown, net: u32, wire: &Wire) -> Result<Item, NoMemory>
     requires { spec.is_public wire.now.name ≡ true }
-    ensures { IfOk result (λ item. item ≡ spec.node_item shown.now net wire.now) }
+    ensures { IfOk result (λ item. item ≡ spec.node_item (seen_shown shown.now) net wire.now) }
 {
     let name = shown_name(alloc, shown, wire.name.as_bytes())?;
     let src = source_text(alloc, wire.attributes.as_slice())?;
@@ -136,7 +137,7 @@ fn show(
     wire: &Wire,
     draft: &mut Draft,
 ) -> Result<(), NoMemory>
-    ensures { OnOk result (draft.new ≡ (record draft.old { items = draft.old.items ++ spec.wire_items shown.now net wire.now })) }
+    ensures { OnOk result (draft.new ≡ (record draft.old { items = draft.old.items ++ spec.wire_items (option_map seen_shown shown.now) net wire.now })) }
 {
     let Some(shown) = shown else {
         return Ok(());
@@ -152,15 +153,15 @@ fn wire<'t>(
     here: &Here,
     wire: &Wire<'t>,
     scope: &mut Table<'t, NamedNet>,
-    draft: &mut Draft,
+    draft: &mut Draft<'t>,
 ) -> Result<(), Refusal>
-    ensures runs { Runs (spec.wire here.now scope.old wire.now) draft.old result draft.new }
+    ensures runs { Runs (spec.wire (seen_here here.now) scope.old wire.now) draft.old result draft.new }
     ensures scope { OnOk result (scope.new ≡ scope.old ++ spec.named (length draft.old.nets) (statement.Wire wire.now)) }
     ensures counted { OnOk result (length draft.new.nets ≡ length draft.old.nets + 1) }
 {
     wire_allowed(alloc, here, scope, wire, draft)?;
     let net = draft.net_count() as u32;
-    draft.push_net(wire_net(alloc, here, wire)?)?;
+    draft.push_net(wire_net(alloc, here, wire)?, init_of(wire))?;
     show(alloc, &here.shown, net, wire, draft)?;
     let named = NamedNet {
         net,
@@ -176,9 +177,9 @@ fn take_wire<'t>(
     here: &Here,
     statement: &Statement<'t>,
     scope: &mut Table<'t, NamedNet>,
-    draft: &mut Draft,
+    draft: &mut Draft<'t>,
 ) -> Result<(), Refusal>
-    ensures runs { Runs (spec.wire_in here.now scope.old statement.now) draft.old result draft.new }
+    ensures runs { Runs (spec.wire_in (seen_here here.now) scope.old statement.now) draft.old result draft.new }
     ensures scope { OnOk result (scope.new ≡ scope.old ++ spec.named (length draft.old.nets) statement.now) }
     ensures counted { OnOk result (length draft.new.nets ≡ length draft.old.nets + length (spec.named (length draft.old.nets) statement.now)) }
 {
@@ -200,9 +201,9 @@ pub fn wires<'t>(
     alloc: Global,
     here: &Here,
     statements: &[Statement<'t>],
-    draft: &mut Draft,
+    draft: &mut Draft<'t>,
 ) -> Result<Table<'t, NamedNet>, Refusal>
-    ensures runs { Runs (spec.wires here.now [] statements.now) draft.old result draft.new }
+    ensures runs { Runs (spec.wires (seen_here here.now) [] statements.now) draft.old result draft.new }
     ensures scope { IfOk result (λ scope. scope ≡ spec.scope_of (length draft.old.nets) statements.now) }
 {
     let mut scope = Table::new(alloc);

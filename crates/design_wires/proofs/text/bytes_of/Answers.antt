@@ -1,4 +1,3 @@
-use Rattle.std.proofs.Common.{◌≡◌, ◌++◌, ◌∷◌, ◌∙◌, ap, sym}
 use Rattle.design_wires.specs.Texts.{bytes_of}
 use Rattle.design_wires.proofs.Bytes.{byte_more}
 use Rattle.design_wires.proofs.text.bytes_of.Goals as goal
