@@ -5,9 +5,9 @@ use Rattle.cell_library.specs.Table.{line_of}
 use Rattle.circuit.specs.declared.fault.DesignKind.TheVariants as kind
 use Rattle.rtlil_tree.specs.declared.module.Cell.{Cell}
 use Rattle.rtlil_signals.specs.Signals.{Scope}
-use Rattle.design_parts.specs.Parts.{Check, Made, Runs, Walk, at, check, guard, nothing}
+use Rattle.design_parts.specs.Parts.{Check, Made, Runs, Walk, at, check}
 use Rattle.design_parts.specs.declared.refusal.Refusal.{Refusal}
-use Rattle.design_wires.specs.declared.here.Here.{Here}
+use Rattle.design_wires.specs.Places.{InstancePlace}
 use Rattle.design_cells.specs.Cells.{library_cell}
 use Rattle.design_memory.specs.Memories.{memory}
 use Rattle.design_diagnostics.specs.Diagnostics.{silent_cell}
@@ -20,13 +20,13 @@ clash_checks owner clash c = check (not clash) (at kind.DuplicateName owner c.na
 
 -- ---- types that are no modules
 
-abbrev pub of_line : Here → Scope → Cell → Option TypeLine → Option Walk
-of_line here scope c line = option_map (λ l. library_cell here.owner.now scope l c) line
+abbrev pub of_line : InstancePlace → Scope → Cell → Option TypeLine → Option Walk
+of_line here scope c line = option_map (λ l. library_cell here.owner scope l c) line
 
-abbrev pub of_memory : Here → Scope → Cell → Bool → Option Walk
+abbrev pub of_memory : InstancePlace → Scope → Cell → Bool → Option Walk
 of_memory here scope c memory_type = if memory_type then Some (memory here scope c) else None
 
-abbrev pub of_silent : Here → Scope → Cell → Option SilentType → Option Walk
+abbrev pub of_silent : InstancePlace → Scope → Cell → Option SilentType → Option Walk
 of_silent here scope c silent = option_map (λ t. silent_cell here scope t c) silent
 
 -- the first of two that is there
@@ -36,7 +36,7 @@ or_else (Some v) w = Some v
 
 -- what a cell gives that is of the library, a memory, or of a type that drives nothing; none where its type is another
 -- one
-unfoldable pub typed_cell : Here → Scope → Cell → Option Walk
+unfoldable pub typed_cell : InstancePlace → Scope → Cell → Option Walk
 typed_cell here scope c =
     or_else (of_line here scope c (line_of c.kind))
     (or_else (of_memory here scope c (bytes_eq c.kind (codes "$mem_v2")))

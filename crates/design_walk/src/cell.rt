@@ -1,4 +1,5 @@
 //! The cells of an instance by their types.
+ghost use Rattle.design_wires.specs.Places.{seen_here};
 ghost use Rattle.design_parts.specs.Parts.{Passes};
 ghost use Rattle.design_walk.specs.Cells as spec;
 
@@ -40,7 +41,7 @@ pub fn typed_cell(
     cell: &Cell,
     draft: &mut Draft,
 ) -> Result<bool, Refusal>
-    ensures { spec.RunsIf (spec.typed_cell here.now scope.now cell.now) draft.old result draft.new }
+    ensures { spec.RunsIf (spec.typed_cell (seen_here here.now) scope.now cell.now) draft.old result draft.new }
 {
     let kind = cell.kind.as_bytes();
     if let Some(line) = line_of(kind) {
