@@ -5,3 +5,5 @@ pub mod Walks
 pub mod Marked
 pub mod Takes
 pub mod Given
+pub mod Found
+pub mod Reached

@@ -2,10 +2,12 @@
 #![tactic(auto)]
 
 mod chains;
+mod laws;
 mod marks;
 mod places;
 mod starts;
 mod taken;
 
+pub use laws::law_of_origins;
 pub use marks::{Mark, marks_of};
 pub use starts::with_starts;
