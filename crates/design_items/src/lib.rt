@@ -1,8 +1,8 @@
-//! The items of a circuit in the order of their names, and what a valid circuit asks of them.
+//! The items of a circuit in the order of their names, each with its slots.
 #![tactic(auto)]
 
 mod arranging;
 mod laws;
 
-pub use arranging::sort_by_name;
+pub use arranging::arrange_items;
 pub use laws::law_of_arranged_items;
