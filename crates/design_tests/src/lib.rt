@@ -1,7 +1,18 @@
-//! Tests of `process_check` and of `refusal_lines`, which use their public items alone.
+//! Tests of the crates that take the parts of a design, of `process_check` and of `refusal_lines`, which use their public items
+//! alone.
 #![tactic(auto)]
 
 #[cfg(test)]
 mod lines;
 #[cfg(test)]
+mod module;
+#[cfg(test)]
+mod refused;
+#[cfg(test)]
+mod rows;
+#[cfg(test)]
+mod taken;
+#[cfg(test)]
 mod texts;
+#[cfg(test)]
+mod told;
