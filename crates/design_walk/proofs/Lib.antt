@@ -1,2 +1,6 @@
 mod Steps
 mod Names
+mod Found
+mod Arrivals
+mod Joined
+mod Depth
