@@ -78,3 +78,19 @@ fn a_circuit_may_have_no_inputs(rt: HostRuntime) {
     assert_eq!(&rt; read.count(), 6);
     check(&rt, &read, 5, 2_250_000_000_000_000, &[]);
 }
+
+#[test]
+fn a_sample_comes_at_the_last_time(rt: HostRuntime) {
+    let text =
+        b"stimulus 0\ninputs clk\nblock 1 4294967295.999999999999999\n4294967295.999999999999998 0\nend\n";
+    let read = stimulus(&rt, text, &[(b"clk", 1)]);
+    check(&rt, &read, 0, 4_294_967_295_999_999_999_999_998, &[0]);
+}
+
+#[test]
+fn repeats_are_counted_to_the_most_samples(rt: HostRuntime) {
+    let text = b"stimulus 0\ninputs clk\nblock 8388608 0.00000001\n0.0 0\n0.000000005 1\nend\n";
+    let read = stimulus(&rt, text, &[(b"clk", 1)]);
+    check(&rt, &read, 16_777_214, 83_886_070_000_000, &[0]);
+    check(&rt, &read, 16_777_215, 83_886_075_000_000, &[1]);
+}
