@@ -1,16 +1,12 @@
 -- The modules of a file by their names.
-use Rattle.std.specs.Prelude.{◌≡◌, ℕ, ◌+◌, List, [], ◌∷◌, map, Option, bytes_eq}
+use Rattle.std.specs.Prelude.{◌≡◌, ℕ, List, map, Option, bytes_eq}
 use Rattle.std.specs.Map.{lookup}
 use Rattle.rtlil_tree.specs.declared.module.Module.{Module}
+pub use Rattle.design_top.specs.Names.{numbered}
 
 -- the first module of a name
 abbrev pub module_named : List Module → List ℕ → Option Module
 module_named ms name = lookup (bytes_eq name) (map (λ m. (m.name, m)) ms)
-
--- each module's name with its place in the file
-abbrev pub numbered : ℕ → List Module → List (List ℕ × ℕ)
-numbered n [] = []
-numbered n (m ∷ ms) = (m.name, n) ∷ numbered (n + 1) ms
 
 -- what names stand for among pairs: of equal names the first counts
 abbrev pub SameNames : List (List ℕ × ℕ) → List (List ℕ × ℕ) → Type 0

@@ -15,5 +15,5 @@ pub use cell::{clash_allowed, typed_cell};
 pub use flags::clash_flags;
 pub use instance::{InstanceModule, instance_module};
 pub use laws::law_of_depth;
-pub use modules::{module_named, module_places};
+pub use modules::module_named;
 pub use place::{Place, ShownFrom, here, place_within, top_place};
