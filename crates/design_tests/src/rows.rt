@@ -47,15 +47,20 @@ parameter \WR_PORTS 1
 parameter \WR_CLK_POLARITY 1'1
 "#;
 
+fn push_byte(text: &mut Vec<u8>, byte: u8) -> Result<(), NoMemory> {
+    match byte {
+        b'/' => text.push(b'\n')?,
+        b'%' => text.extend_from_slice(MEMORY)?,
+        other => text.push(other)?,
+    }
+    Ok(())
+}
+
 /// The text of a row between two others: its lines are parted by `/`.
 fn text_of(alloc: Global, front: &[u8], row: &str, behind: &[u8]) -> Result<Vec<u8>, NoMemory> {
     let mut text = Vec::from_slice(alloc, front)?;
     for byte in row.as_bytes() {
-        match *byte {
-            b'/' => text.push(b'\n')?,
-            b'%' => text.extend_from_slice(MEMORY)?,
-            other => text.push(other)?,
-        }
+        push_byte(&mut text, *byte)?;
     }
     text.extend_from_slice(behind)?;
     Ok(text)
