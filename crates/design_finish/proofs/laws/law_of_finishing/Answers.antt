@@ -1,0 +1,20 @@
+use Rattle.std.proofs.Common.{◌≡◌, true, subst, sym}
+use Rattle.circuit.specs.Valid.{is_valid}
+use Rattle.circuit.specs.declared.netlist.Circuit.{Circuit}
+use Rattle.design_starts.specs.Starts.{start_digit, started}
+use Rattle.design_finish.proofs.Ready.{ready_fits}
+use Rattle.design_finish.proofs.laws.law_of_finishing.Goals as goal
+
+pub returns : goal.returns
+returns c made finished inits fin ready =
+    let items = fin.items in
+    let law = c.law_of_arranged_items.ensures in
+    let begun : Circuit = record made { items = items } in
+    subst (λ (x : Circuit). is_valid x ≡ true) (sym fin.whole)
+    (c.law_of_validity.ensures.whole (started begun inits)
+    (ready_fits (start_digit begun inits) made items ready
+    (law.count made.mems made.items items fin.arranged)
+    (λ net. law.once made.mems net made.items items fin.arranged)
+    (law.fit made.nets made.mems made.scopes made.items items fin.arranged ready.items)
+    (law.slots made.mems made.items items fin.arranged)
+    (law.rise made.mems made.items items fin.arranged ready.apart)))
