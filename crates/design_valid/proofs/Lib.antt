@@ -1,6 +1,6 @@
 pub mod Keeping
-mod Lists
-mod Sigs
-mod Driven
-mod Wiring
-mod Wires
+pub mod Lists
+pub mod Sigs
+pub mod Driven
+pub mod Wiring
+pub mod Wires

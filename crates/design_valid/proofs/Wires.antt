@@ -54,7 +54,7 @@ module _ (here : InstancePlace) (earlier : Scope) (w : Wire) where
   keeps_wire : Keeps IsWired (wire here earlier w)
   keeps_wire m n e h =
       let is = wire_is m n e in
-      subst IsWired (sym is.1) (wired_with m (wire_made here w m) h (record { nets = all_one (λ (x : Net). nat_le x.width widest) (wire_net here w) is.0; drives = refl; cells = refl; regs = refl; mems = refl }))
+      subst IsWired (sym is.1) (wired_with m (wire_made here w m) h (record { nets = all_one (λ (x : Net). nat_le x.width widest) (wire_net here w) is.0; drives = refl; cells = refl; regs = refl; mems = refl; diags = refl }))
 
 keeps_wire_in : (here : InstancePlace) (earlier : Scope) (s : Statement) → Keeps IsWired (wire_in here earlier s)
 unfolding wire_in

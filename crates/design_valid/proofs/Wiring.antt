@@ -1,20 +1,37 @@
 -- What is wired up stays so, and more fits behind it.
-use Rattle.std.proofs.Common.{◌≡◌, ℕ, List, [], ◌∷◌, ◌++◌, true, Some, cond, Bool, false, bytes_eq, refl, sym, subst}
+use Rattle.std.proofs.Common.{◌≡◌, ℕ, List, [], ◌∷◌, ◌++◌, length, ◌==◌, ◌&&◌, true, Option, Some, None, cond, Bool, false, bytes_eq, refl, sym, subst}
 use Rattle.std.specs.Prelude.{nat_le}
 use Rattle.std.specs.List.{list_all}
 use Rattle.std.specs.Map.{lookup}
-use Rattle.circuit.specs.Built.{DriversStandIn}
-use Rattle.circuit.specs.Valid.{Drivers, cell_fits, drive_fits, drivers_of, mem_fits, register_fits, widest}
+use Rattle.std.proofs.lemmas.Bool.{and_from, and_parts}
+use Rattle.circuit.specs.Built.{DriversStandIn, StandsIn}
+use Rattle.circuit.specs.Signal.{sig_width}
+use Rattle.circuit.specs.declared.diagnostic.Diag.{Diag}
+use Rattle.circuit.specs.declared.diagnostic.Trigger.{Trigger}
+use Rattle.circuit.specs.Valid.{Drivers, cell_fits, drive_fits, drivers_of, mem_fits, register_fits, sig_fits, sig_of, trigger_fits, widest}
 use Rattle.circuit.specs.declared.netlist.Drive.{Drive}
 use Rattle.circuit.specs.declared.netlist.Net.{Net}
-use Rattle.circuit.proofs.Grown.{all_mono, appended_stands, cell_stays, drive_stays, mem_stays, register_stays}
+use Rattle.circuit.proofs.Grown.{all_mono, appended_stands, cell_stays, drive_stays, mem_stays, register_stays, sig_of_stays, sig_stays}
 use Rattle.design_parts.specs.Parts.{Made, Walk, both_made, circuit_of, none_made}
 use Rattle.rtlil_signals.specs.Signals.{Scope}
 use Rattle.rtlil_signals.specs.declared.scope.NamedNet.{NamedNet}
 use Rattle.design_valid.specs.Keeps.{Keeps}
-use Rattle.design_valid.specs.Wired.{AreWired, IsThere, IsWired, IsWiredIn, StandsOver}
+use Rattle.design_valid.specs.Wired.{AreWired, IsThere, IsWired, IsWiredIn, StandsOver, diag_wired}
 use Rattle.design_valid.proofs.Keeping.{run_is}
 use Rattle.design_valid.proofs.Lists.{all_both}
+
+trigger_stays : (nets more : List Net) → StandsIn nets more → (t : Option Trigger) → trigger_fits nets t ≡ true → trigger_fits more t ≡ true
+trigger_stays nets more stands None h = h
+trigger_stays nets more stands (Some t) h =
+    let both = and_parts (sig_fits nets t.on) (length t.rising == sig_width t.on) h in
+    and_from (sig_fits more t.on) (length t.rising == sig_width t.on) (sig_stays nets more stands t.on both.0) both.1
+
+diag_stays : (nets more : List Net) → StandsIn nets more → (d : Diag) → diag_wired nets d ≡ true → diag_wired more d ≡ true
+diag_stays nets more stands d h =
+    let a = and_parts (sig_of nets 1 d.a) (sig_of nets 1 d.en && trigger_fits nets d.trigger) h in
+    let b = and_parts (sig_of nets 1 d.en) (trigger_fits nets d.trigger) a.1 in
+    and_from (sig_of more 1 d.a) (sig_of more 1 d.en && trigger_fits more d.trigger) (sig_of_stays nets more stands 1 d.a a.0)
+    (and_from (sig_of more 1 d.en) (trigger_fits more d.trigger) (sig_of_stays nets more stands 1 d.en b.0) (trigger_stays nets more stands d.trigger b.1))
 
 abbrev pub drivers_in : Made → Drivers
 drivers_in m = drivers_of (circuit_of m)
@@ -41,6 +58,7 @@ wired_with m f w g =
       cells = all_both (cell_fits more) m.cells f.cells (all_mono (cell_fits m.nets) (cell_fits more) m.cells (cell_stays m.nets more stands) w.cells) g.cells;
       regs = all_both (register_fits more) m.regs f.regs (all_mono (register_fits m.nets) (register_fits more) m.regs (register_stays m.nets more stands) w.regs) g.regs;
       mems = all_both (mem_fits more) m.mems f.mems (all_mono (mem_fits m.nets) (mem_fits more) m.mems (mem_stays m.nets more stands) w.mems) g.mems;
+      diags = all_both (diag_wired more) m.diags f.diags (all_mono (diag_wired m.nets) (diag_wired more) m.diags (diag_stays m.nets more stands) w.diags) g.diags;
     }
 
 -- ---- names
@@ -76,4 +94,4 @@ keeps_in scope w k m n e h = record {
 -- ---- parts of drives alone, and of nets alone
 
 pub drives_wired : (m : Made) (ds : List Drive) → list_all (drive_fits (drivers_in (both_made m (record none_made { drives = ds })))) ds ≡ true → AreWired (both_made m (record none_made { drives = ds })) (record none_made { drives = ds })
-drives_wired m ds h = record { nets = refl; drives = h; cells = refl; regs = refl; mems = refl }
+drives_wired m ds h = record { nets = refl; drives = h; cells = refl; regs = refl; mems = refl; diags = refl }

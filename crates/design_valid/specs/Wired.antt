@@ -1,11 +1,16 @@
--- What a valid circuit asks of what is wired up: nets, drives, cells, registers and memories.
-use Rattle.std.specs.Prelude.{◌≡◌, ℕ, List, true, Some, slice_get, nat_le}
+-- What a valid circuit asks of what is wired up: nets, drives, cells, registers, memories and diagnostics.
+use Rattle.std.specs.Prelude.{◌≡◌, ◌&&◌, ℕ, List, Bool, true, Some, slice_get, nat_le}
 use Rattle.std.specs.List.{list_all}
-use Rattle.circuit.specs.Valid.{cell_fits, drive_fits, drivers_of, mem_fits, register_fits, widest}
+use Rattle.circuit.specs.Valid.{cell_fits, drive_fits, drivers_of, mem_fits, register_fits, sig_of, trigger_fits, widest}
+use Rattle.circuit.specs.declared.diagnostic.Diag.{Diag}
 use Rattle.circuit.specs.declared.netlist.Net.{Net}
 use Rattle.design_parts.specs.Parts.{Made, circuit_of}
 use Rattle.rtlil_signals.specs.Signals.{Scope, net_named}
 use Rattle.rtlil_signals.specs.declared.scope.NamedNet.{NamedNet}
+
+-- the signals of a diagnostic; its texts are another matter
+abbrev pub diag_wired : List Net → Diag → Bool
+diag_wired nets d = sig_of nets 1 d.a && (sig_of nets 1 d.en && trigger_fits nets d.trigger)
 
 -- the lists of one part fit over those of all
 pub record AreWired (all part : Made) : Type 0 where
@@ -14,6 +19,7 @@ pub record AreWired (all part : Made) : Type 0 where
   pub cells : list_all (cell_fits all.nets) part.cells ≡ true
   pub regs : list_all (register_fits all.nets) part.regs ≡ true
   pub mems : list_all (mem_fits all.nets) part.mems ≡ true
+  pub diags : list_all (diag_wired all.nets) part.diags ≡ true
 
 -- what was made fits together
 abbrev pub IsWired : Made → Type 0
