@@ -3,6 +3,7 @@
 
 mod finishing;
 mod laws;
+mod nodes;
 
 pub use finishing::finish;
 pub use laws::law_of_finishing;

@@ -2,11 +2,17 @@ use Rattle.std.proofs.Common.{◌≡◌, true, subst, sym}
 use Rattle.circuit.specs.Valid.{is_valid}
 use Rattle.circuit.specs.declared.netlist.Circuit.{Circuit}
 use Rattle.design_starts.specs.Starts.{start_digit, started}
+use Rattle.design_finish.proofs.Only.{only_one}
 use Rattle.design_finish.proofs.Ready.{ready_fits}
 use Rattle.design_finish.proofs.laws.law_of_finishing.Goals as goal
 
-pub returns : goal.returns
-returns c made finished inits fin ready =
+pub returns-clause-only : goal.returns-clause-only
+returns-clause-only c made one other inits apart a b =
+    let rise = c.law_of_order.ensures.rise made.items in
+    only_one c.law_of_order.ensures.before made one other inits a b (rise a.arranged.sorted apart a.arranged.same a.arranged.rise) (rise b.arranged.sorted apart b.arranged.same b.arranged.rise)
+
+pub returns-clause-valid : goal.returns-clause-valid
+returns-clause-valid c made finished inits fin ready =
     let items = fin.items in
     let law = c.law_of_arranged_items.ensures in
     let begun : Circuit = record made { items = items } in
