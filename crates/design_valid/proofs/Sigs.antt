@@ -53,6 +53,23 @@ part_width at width (p ∷ ps) =
           omega (arith, e, rest, width_of_piece at (taken at width p) p, sum_by-cons piece_width (piece_part at (taken at width p) p) (left at width p ps)))
     ]
 
+-- and as many as it is to have, where they are there
+pub part_is : (at width : ℕ) (ps : List Piece) → at + width ≤ sig_width ps → sig_width (sig_part at width ps) ≡ width
+unfolding sig_part
+part_is at width [] le = omega (arith, le)
+part_is at width (p ∷ ps) le =
+    let cons : sig_width (p ∷ ps) ≡ piece_width p + sig_width ps = sum_by-cons piece_width p ps in
+    let rest : sig_width (left at width p ps) ≡ width - taken at width p = part_is (at - piece_width p) (width - taken at width p) ps (omega (arith, cons, le)) in
+    elim (eqb_tells (taken at width p) 0) [
+      | inl t ↦
+          (let e : sig_width (sig_part at width (p ∷ ps)) ≡ sig_width (left at width p ps) = ap sig_width (part_step at width p ps ∙ cond-true (eqb (taken at width p) 0) _ _ t.0) in
+          let z : taken at width p ≡ 0 = t.1 in
+          omega (arith, e, rest, z))
+      | inr f ↦
+          (let e : sig_width (sig_part at width (p ∷ ps)) ≡ sig_width (piece_part at (taken at width p) p ∷ left at width p ps) = ap sig_width (part_step at width p ps ∙ cond-false (eqb (taken at width p) 0) _ _ f.0) in
+          omega (arith, e, rest, width_of_piece at (taken at width p) p, sum_by-cons piece_width (piece_part at (taken at width p) p) (left at width p ps)))
+    ]
+
 reaches_less : (end more : ℕ) (net : Option Net) → end ≤ more → reaches more net ≡ true → reaches end net ≡ true
 reaches_less end more None le h = h
 reaches_less end more (Some x) le h = let m : more ≤ x.width = leb-true more x.width h in le-leb end x.width (omega arith)

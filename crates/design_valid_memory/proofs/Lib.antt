@@ -1,0 +1,5 @@
+mod Ranges
+mod Parts
+mod Fitting
+pub mod Memory
+pub mod Silent
