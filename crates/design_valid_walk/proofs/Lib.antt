@@ -2,6 +2,6 @@ pub mod Growing
 pub mod Walking
 mod Inputs
 mod Joining
-mod Arriving
-mod Typed
+pub mod Arriving
+pub mod Typed
 pub mod Whole

@@ -1,0 +1,5 @@
+mod Added
+mod Wires
+mod Cells
+mod Instances
+pub mod Design
