@@ -1,0 +1,4 @@
+mod Numbers
+mod Connected
+mod Joined
+mod Following
