@@ -256,6 +256,14 @@ impl<'t> Draft<'t> {
         drive(left, source, &mut self.circuit.drives)
     }
 
+    /// The lists, and what is written as the start value of each net.
+    pub fn into_parts(self) -> (Circuit, Items<Option<Const<'t>>>)
+        ensures circuit { result.0 ≡ circuit_of self.entry }
+        ensures inits { result.1 ≡ self.entry.inits }
+    {
+        (self.circuit, self.inits)
+    }
+
     /// The lists, and nothing of the number of instances.
     pub fn into_circuit(self) -> Circuit
         ensures { result ≡ circuit_of self.entry }
