@@ -6,6 +6,7 @@ pub mod Meaning
 pub mod Rounding
 pub mod Valued
 pub mod Stepped
+pub mod Updating
 pub mod Starting
 pub mod PortsOver
 pub mod PortsKept

@@ -67,7 +67,7 @@ listed_covering roots (k ∷ ks) x = elim (place_covers roots k x (slice_get roo
 -- ---- blank bits
 
 pub seeded_blank : (roots : List Drive) (inputs : List BitValue) (store : Store) (t : ℕ) (vs ws : List BitValue) → IsSeeded roots (kept_of inputs store) t vs ws → IsBlank roots vs → IsBlank roots ws
-seeded_blank roots inputs store t vs ws s blank x none = s.bare x none ∙ blank x none
+seeded_blank roots inputs store t vs ws s blank x none = s.bare x (λ i r cov. absurd (none i r cov)) ∙ blank x none
 
 pub spread_blank : (roots : List Drive) (places : List ℕ) (t number : ℕ) (vs ws : List BitValue) → IsSpread roots places t number vs ws → IsBlank roots vs → IsBlank roots ws
 spread_blank roots places t number vs ws s blank x none = s.kept x (λ h. none h.1 h.2 h.5) ∙ blank x none
@@ -130,13 +130,13 @@ module _ (c : Circuit) (inputs : List BitValue) (rows : List RowValues) (store :
         s.taken i r x v.0 (within roots i r cov.0) cov is v.1
         ∙ given_kept r.width (x.1 - r.at) v.0 r.by (root_fits c roots are i r cov.0) t v.1
         ∙ sym (root_right c state (numbers inputs) digits roots are valued i r x cov))
-    | inr none ↦ s.bare x none ∙ blank x none ∙ sym (undriven_right c state (numbers inputs) digits roots are valued x none)
+    | inr none ↦ s.bare x (λ i r cov. absurd (none i r cov)) ∙ blank x none ∙ sym (undriven_right c state (numbers inputs) digits roots are valued x none)
   ]
 
 -- ---- a node
 
 -- the roots that take from a node are listed
-node_listed : (c : Circuit) (roots : List Drive) (sources : Sources) (n : Node) → AreSources c roots sources → IsNode c n → Lists (RootBy roots (TakesPart n)) (node_row sources n)
+pub node_listed : (c : Circuit) (roots : List Drive) (sources : Sources) (n : Node) → AreSources c roots sources → IsNode c n → Lists (RootBy roots (TakesPart n)) (node_row sources n)
 node_listed c roots sources (node.Cell n) from is = from.cells n is
 node_listed c roots sources (node.Read m n) from is = from.reads m n is.0 is.2 (within is.0.reads n is.1 is.3)
 

@@ -1,7 +1,7 @@
 -- One round more of a sample.
-use Rattle.std.proofs.Common.{◌≡◌, ℕ, suc, ◌+◌, ◌-◌, ◌*◌, ◌<◌, ◌≤◌, List, [], ◌∷◌, length, Bool, true, false, not, Some, None, map, cond, refl, sym, ◌∙◌, ap, arith, add-one}
+use Rattle.std.proofs.Common.{◌≡◌, ℕ, suc, ◌+◌, ◌-◌, ◌<◌, ◌≤◌, List, [], ◌∷◌, length, Bool, true, false, not, Some, None, map, cond, refl, sym, ◌∙◌, ap, arith}
 use Rattle.std.specs.Prelude.{nat_eq}
-use Rattle.std.proofs.Math.Nat.{suc-mul}
+use Rattle.std.proofs.lemmas.List.Sums.{sum_by-cons}
 use Rattle.std.specs.Cmp.Lexicographic.{bytes_decides, pointwise}
 use Rattle.std.proofs.lemmas.Bool.{cond-true, cond-false, and_parts}
 use Rattle.circuit.specs.State.{State, Stored, same_stored, same_state}
@@ -10,6 +10,7 @@ use Rattle.circuit.specs.Next.{next}
 use Rattle.circuit.specs.Rounds.{Round, rounds_within, settled_within, settling}
 use Rattle.circuit.specs.Shown.{fires_by}
 use Rattle.circuit.specs.declared.netlist.Circuit.{Circuit}
+use Rattle.cell_changes.specs.Changes.{changed_cells, changes_in}
 use Rattle.eval_commit.specs.Fired.{all_fired_after, none_fired}
 use Rattle.eval_commit.proofs.Firing.{all_fire_over, all_fired_over}
 
@@ -168,11 +169,39 @@ module _ (c : Circuit) (inputs : List ℕ) (first : State) (nets : List ℕ) (do
       let none = ap (λ n. length (rounds_within n c from before inputs)) (none_opened le) ∙ no_rounds c from before inputs in
       omega (arith, none, is.counted)
 
--- so many steps in each of so many rounds
-pub stepped_more : (start done each was now : ℕ) → was ≡ start + done * each → now ≡ was + each → now ≡ start + (done + 1) * each
-stepped_more start done each was now before more =
-    let e : (done + 1) * each ≡ done * each + each = ap (λ n. n * each) (add-one done) ∙ suc-mul done each in
-    omega (arith, e, before, more)
+-- ---- so many steps are taken, and these are left
+
+abbrev pub AreStepsLeft : Circuit → List ℕ → State → List ℕ → ℕ → State → List ℕ → ℕ → ℕ → Type 0
+AreStepsLeft c inputs first nets done state before start steps =
+    steps + changes_in c.cells (rounds_within (256 - done) c state before inputs) ≡ start + changes_in c.cells (rounds_within 256 c first nets inputs)
+
+module _ (c : Circuit) (inputs : List ℕ) (first : State) (nets : List ℕ) (done : ℕ) (from : State) (before : List ℕ) (start was : ℕ) (left : AreStepsLeft c inputs first nets done from before start was) where
+  module _ (to : State) (now : List ℕ) (steps : ℕ) (lt : done < 256) (value : now ≡ valuation c from inputs) (state : to ≡ next c from before now) (taken : steps ≡ was + changed_cells c.cells (record { before = before; now = now })) where
+    round : Round
+    round = record { before = before; now = now }
+
+    open_left : was + changes_in c.cells (rounds_within (suc (256 - (done + 1))) c from before inputs) ≡ start + changes_in c.cells (rounds_within 256 c first nets inputs)
+    open_left = ap (λ n. was + changes_in c.cells (rounds_within n c from before inputs)) (let e : suc (256 - (done + 1)) ≡ 256 - done = omega (arith, lt) in e) ∙ left
+
+    pub steps_less : same_state to from ≡ false → AreStepsLeft c inputs first nets (done + 1) to now start steps
+    unfolding round
+    steps_less other =
+        let more = ap (changes_in c.cells) (one_round_more c from to before now inputs value state (256 - (done + 1)) other) in
+        let cons = sum_by-cons (changed_cells c.cells) round (rounds_within (256 - (done + 1)) c to now inputs) in
+        omega (arith, more, cons, taken, open_left)
+
+    pub steps_done : same_state to from ≡ true → steps ≡ start + changes_in c.cells (rounds_within 256 c first nets inputs)
+    unfolding round
+    steps_done still =
+        let more = ap (changes_in c.cells) (last_round c from to before now inputs value state (256 - (done + 1)) still) in
+        let cons = sum_by-cons (changed_cells c.cells) round [] in
+        omega (arith, more, cons, taken, open_left)
+
+  pub steps_all : 256 ≤ done → was ≡ start + changes_in c.cells (rounds_within 256 c first nets inputs)
+  unfolding settling
+  steps_all le =
+      let none = ap (λ n. was + changes_in c.cells (rounds_within n c from before inputs)) (let e : 256 - done ≡ 0 = omega (arith, le) in e) in
+      omega (arith, none, left)
 
 -- what a round tells
 pub told_unchanged : (b : Bool) → false ≡ not b → b ≡ true

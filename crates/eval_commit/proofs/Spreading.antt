@@ -93,7 +93,7 @@ seed_more roots kept t r vs ws us apart root has digits other s = elim (cases_Bo
         ];
         bare = λ x out.
             (let off : covers x.0 x.1 r ≡ false = elim (cases_Bool (covers x.0 x.1 r)) [
-              | inl on ↦ absurd (out t r (root, on))
+              | inl on ↦ absurd (false≢true (sym (out t r (root, on)) ∙ is))
               | inr no_ ↦ no_
             ] in
             digits v x is h.1 ∙ cond-false (covers x.0 x.1 r) (taken_digit v.number r x) (digits_in ws x.0 x.1) off ∙ s.bare x out);

@@ -19,13 +19,13 @@ use Rattle.signal_words.specs.Stores.{IsStoreOf}
 use Rattle.sim_base.specs.Values.{numbers, widths}
 use Rattle.eval_commit.specs.Computed.{AreAllRows}
 use Rattle.eval_commit.specs.Fired.{none_fired}
-use Rattle.eval_commit.specs.Evaluation.{IsBlank, input_width}
+use Rattle.eval_commit.specs.Evaluation.{Holds, IsBlank, input_width}
 use Rattle.eval_commit.specs.Invariant.{ArePortsOf, AreRoundsOf, standing_of, state_of}
 use Rattle.eval_commit.specs.KeptState.{kept_state, stored_all}
 use Rattle.eval_commit.specs.declared.step.Rounds.{Rounds}
 use Rattle.eval_commit.proofs.Firing.{none_fired_length}
 use Rattle.eval_commit.proofs.PortsOver.{long_as}
-use Rattle.eval_commit.proofs.PortsKept.{start_ports_wide, start_stored_is}
+use Rattle.eval_commit.proofs.PortsKept.{kept_holds, start_ports_wide, start_stored_is}
 use Rattle.eval_commit.proofs.Starting.{first_holds}
 
 pub ports_long : (c : Circuit) (ports : List (List BitValue)) → ArePortsOf c ports → length ports ≡ length c.mems
@@ -38,6 +38,12 @@ row_kept [] ports n r i le at = cc at
 row_kept (x ∷ xs) [] n r i le at = absurd (omega arith)
 row_kept (x ∷ xs) (o ∷ os) zero r i le at = let e : x ≡ r = cc at in ap (λ (y : RowValues). slice_index y.rows i) e
 row_kept (x ∷ xs) (o ∷ os) (suc n) r i le at = row_kept xs os n r i (omega (arith, le)) at
+
+-- a store with copies of what is kept holds the state
+pub rounds_hold : (c : Circuit) (plan : Plan) (r : Rounds) (store : Store) (rows : List RowValues) → AreRoundsOf c plan r → rows ≡ r.rows → store.regs ≡ r.regs → store.reads ≡ r.ports → Holds c rows store (state_of r)
+rounds_hold c plan r store rows are same regs reads =
+    subst (λ (rs : List RowValues). Holds c rs store (state_of r)) (sym same)
+    (kept_holds c r.regs r.rows r.ports store are.rows.long (ports_long c r.ports are.ports) (ap numbers regs) reads)
 
 -- ---- before the first sample
 

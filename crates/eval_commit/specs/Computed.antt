@@ -1,5 +1,6 @@
 -- What the nodes of a plan compute.
 use Rattle.std.specs.Prelude.{◌≡◌, ℕ, List, length, Option, Some, None, slice_get}
+use Rattle.sim_base.specs.BitValue.{digit_of}
 use Rattle.circuit.specs.Signal.{Digits, sig_number}
 use Rattle.circuit.specs.Output.{output}
 use Rattle.circuit.specs.State.{addressed_row}
@@ -12,6 +13,7 @@ use Rattle.driver_check.specs.declared.parts.Node.{Node}
 use Rattle.driver_check.specs.declared.parts.Node.TheVariants as node
 use Rattle.eval_plan.specs.declared.sources.Sources.{Sources}
 use Rattle.memory_cells.specs.Rows.{AreRowsOf, RowValues}
+use Rattle.cell_changes.specs.Changes.{has_changed}
 
 -- the places of the roots that take from a node
 abbrev pub node_row : Sources → Node → List ℕ
@@ -35,10 +37,18 @@ abbrev pub computed : Circuit → List RowValues → Digits → Node → ℕ
 computed c rows digits (node.Cell n) = cell_number digits (slice_get c.cells n)
 computed c rows digits (node.Read m n) = read_number digits (slice_get c.mems m) (slice_get rows m) n
 
--- the steps that a node takes
-abbrev pub steps_of : Node → ℕ
-steps_of (node.Cell n) = 1
-steps_of (node.Read m n) = 0
+-- 1 for a cell of which some bit that it reads differs between two valuations
+abbrev pub cell_changes : Digits → Digits → Option Cell → ℕ
+cell_changes before now None = 0
+cell_changes before now (Some x) = digit_of (has_changed before now x)
+
+-- a number of a cell, and 0 for a read port
+abbrev pub of_cell : (ℕ → ℕ) → Node → ℕ
+of_cell f (node.Cell n) = f n
+of_cell f (node.Read m n) = 0
+
+abbrev pub node_changes : Circuit → Digits → Digits → Node → ℕ
+node_changes c before now = of_cell (λ n. cell_changes before now (slice_get c.cells n))
 
 -- the rows of each memory
 pub record AreAllRows (c : Circuit) (rows : List RowValues) : Type 0 where

@@ -1,6 +1,7 @@
 pub mod Spread
 pub mod Seeding
 pub mod Computed
+pub mod Shown
 pub mod Evaluation
 pub mod KeptState
 pub mod Fired

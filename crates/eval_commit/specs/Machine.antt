@@ -3,6 +3,7 @@ use Rattle.std.specs.Prelude.{ℕ, List, length, map, Bool, ◌&&◌, Option, op
 use Rattle.circuit.specs.Rounds.{Standing, rounds_from, settled}
 use Rattle.circuit.specs.Shown.{fires_by}
 use Rattle.circuit.specs.declared.netlist.Circuit.{Circuit}
+use Rattle.cell_changes.specs.Changes.{changes_in}
 
 -- a circuit, with its state and the numbers of its nets after the last sample, or neither once a sample did not settle,
 -- and whether each diagnostic fired at that sample: none did before the first one, and where it did not settle
@@ -24,3 +25,7 @@ after_sample m inputs =
 -- how many rounds that sample takes: 256 where it does not settle, and none where one before it did not
 abbrev pub rounds_of_sample : MachineState → List ℕ → ℕ
 rounds_of_sample m inputs = length (rounds_from m.circuit m.standing inputs)
+
+-- over these rounds, how many cells have an input bit that differs between the round before and the round
+abbrev pub changes_of_sample : MachineState → List ℕ → ℕ
+changes_of_sample m inputs = changes_in m.circuit.cells (rounds_from m.circuit m.standing inputs)

@@ -37,7 +37,7 @@ kept_value kept (by.Read m n at) = option_and_then (λ outs. slice_get outs n) (
 abbrev pub HasKept : Kept → Drive → Type 0
 HasKept kept r = is_kept r.by ≡ true → (v : BitValue) × (kept_value kept r.by ≡ Some v) × (offset_of r.by + r.width ≤ v.width)
 
--- the bits of those of the first t roots that take kept values have these, and bits of no root what they had
+-- the bits of those of the first t roots that take kept values have these, and bits of no such root what they had
 pub record IsSeeded (roots : List Drive) (kept : Kept) (t : ℕ) (before after : List BitValue) : Type 0 where
   pub taken : (i : ℕ) (r : Drive) (x : Bit) (v : BitValue) → i < t → CoversIn roots i r x → is_kept r.by ≡ true → kept_value kept r.by ≡ Some v → digits_in after x.0 x.1 ≡ taken_digit v.number r x
-  pub bare : (x : Bit) → ((i : ℕ) (r : Drive) → CoversIn roots i r x → ⊥) → digits_in after x.0 x.1 ≡ digits_in before x.0 x.1
+  pub bare : (x : Bit) → ((i : ℕ) (r : Drive) → CoversIn roots i r x → is_kept r.by ≡ false) → digits_in after x.0 x.1 ≡ digits_in before x.0 x.1

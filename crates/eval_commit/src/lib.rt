@@ -13,6 +13,7 @@ mod round;
 mod settle;
 mod start;
 mod step;
+mod update;
 
 pub use machine::Machine;
 pub use settle::Settled;

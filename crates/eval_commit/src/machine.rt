@@ -1,5 +1,5 @@
 //! A circuit that goes from sample to sample.
-ghost use Rattle.std.specs.Prelude.{◌≡◌, ℕ, ◌+◌, ◌*◌, ◌<◌, true, Some, None, IfOk, is_some, length, slice_get, slice_index};
+ghost use Rattle.std.specs.Prelude.{◌≡◌, ℕ, ◌+◌, ◌<◌, ◌≤◌, true, Some, None, IfOk, is_some, length, slice_get, slice_index};
 ghost use Rattle.std.specs.Arc.{arc_value};
 ghost use Rattle.sim_base.specs.BitValue.{bit_value};
 ghost use Rattle.circuit.specs.Rounds.{Standing, start};
@@ -8,7 +8,7 @@ ghost use Rattle.circuit.specs.declared.memory.Mem.{Mem as TheMem};
 ghost use Rattle.circuit.specs.declared.netlist.Net.{Net as TheNet};
 ghost use Rattle.sim_base.specs.Values.{numbers};
 ghost use Rattle.eval_commit.specs.Fired.{none_fired};
-ghost use Rattle.eval_commit.specs.Machine.{after_sample, rounds_of_sample};
+ghost use Rattle.eval_commit.specs.Machine.{after_sample, changes_of_sample, rounds_of_sample};
 ghost use Rattle.eval_commit.specs.Evaluation.{AreInputsOf};
 ghost use Rattle.eval_plan.specs.Plans.{IsPlanOf};
 ghost use Rattle.eval_commit.specs.declared.settle.Settled.TheVariants as settled_as;
@@ -41,12 +41,13 @@ impl Model for Machine {
     ghost use Rattle.eval_commit.specs.Machine.{MachineState};
     ghost use Rattle.eval_plan.specs.Plans.{IsPlanOf};
     ghost use Rattle.eval_commit.specs.Invariant.{AreRoundsOf, standing_of};
+    ghost use Rattle.eval_commit.specs.Shown.{ShowsCells};
 
     ghost Value = { MachineState };
 
     ghost view = { λ m. record { circuit = arc_value m.circuit; standing = if m.stuck then None else Some (standing_of m.rounds); fired = if m.stuck then none_fired (arc_value m.circuit).diags else m.rounds.fired } };
 
-    ghost invariant = { λ m. IsPlanOf (arc_value m.circuit) m.plan × AreRoundsOf (arc_value m.circuit) m.plan m.rounds };
+    ghost invariant = { λ m. IsPlanOf (arc_value m.circuit) m.plan × AreRoundsOf (arc_value m.circuit) m.plan m.rounds × ShowsCells (arc_value m.circuit) m.plan m.rounds.before.nets };
 }
 
 impl Machine {
@@ -68,15 +69,15 @@ impl Machine {
     /// Takes the circuit through one sample: rounds until one leaves the state as it was, at most 256. There is
     /// one input for each of the circuit's, in their order, of the width of its net. `Yes` has the number of
     /// rounds. `No` comes exactly where round 256 still changed the state, and for each sample from then on.
-    /// Each round evaluates every node of the plan, and takes a step for each cell and none for a read port.
-    /// It takes no memory.
+    /// In a round no cell is evaluated of which all bits that it reads are as in the round before; a step is an
+    /// evaluation of a cell. It takes no memory.
     pub fn settle<L: Ledger>(&mut self, inputs: &[Bits], steps: &mut Steps<L>) -> Settled
         requires inputs { AreInputsOf self.old.circuit inputs.now }
         ensures machine { self.new ≡ after_sample self.old (numbers inputs.now) }
         ensures yes { (rounds : ℕ) → result ≡ settled_as.Yes rounds → is_some self.new.standing ≡ true }
         ensures rounds { (rounds : ℕ) → result ≡ settled_as.Yes rounds → rounds ≡ rounds_of_sample self.old (numbers inputs.now) }
         ensures no { result ≡ settled_as.No → self.new.standing ≡ None }
-        ensures steps { steps.new ≡ steps.old + rounds_of_sample self.old (numbers inputs.now) * length self.old.circuit.cells }
+        ensures steps { steps.new ≤ steps.old + changes_of_sample self.old (numbers inputs.now) }
     {
         if self.stuck {
             return Settled::No;

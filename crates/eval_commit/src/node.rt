@@ -10,7 +10,7 @@ ghost use Rattle.eval_plan.specs.Sources.{AreSources, cell_row, read_row};
 ghost use Rattle.signal_words.specs.Stores.{IsStoreOf};
 ghost use Rattle.sim_base.specs.Values.{numbers, widths};
 ghost use Rattle.signal_words.specs.Values.{digits_in};
-ghost use Rattle.eval_commit.specs.Computed.{AreAllRows, cell_number, computed, node_row, read_number, steps_of};
+ghost use Rattle.eval_commit.specs.Computed.{AreAllRows, cell_number, computed, node_row, read_number};
 ghost use Rattle.eval_commit.specs.Spread.{IsSpread};
 
 use crate::put::spread;
@@ -60,7 +60,7 @@ fn eval_cell<L: Ledger>(circuit: &Circuit, n: u32, store: &mut Store, steps: &mu
 }
 
 /// Evaluates a cell, and writes the bits of the roots that take from it.
-fn compute_cell<L: Ledger>(
+pub(crate) fn compute_cell<L: Ledger>(
     circuit: &Circuit,
     plan: &Plan,
     n: u32,
@@ -86,7 +86,7 @@ fn compute_cell<L: Ledger>(
 
 /// Reads the row at the address of a read port into a memory's room, and writes the bits of the roots that
 /// take from the port.
-fn compute_read(
+pub(crate) fn compute_read(
     circuit: &Circuit,
     plan: &Plan,
     m: u32,
@@ -116,8 +116,7 @@ fn compute_read(
     spread(&mut store.nets, plan.roots.as_slice(), places, &room.view());
 }
 
-/// Evaluates a node, and writes the bits of the roots that take from it. It takes a step for a cell, and no
-/// memory.
+/// Evaluates a node, and writes the bits of the roots that take from it. It takes no memory.
 pub(crate) fn compute<L: Ledger>(
     circuit: &Circuit,
     plan: &Plan,
@@ -139,7 +138,6 @@ pub(crate) fn compute<L: Ledger>(
     ensures reads { store.new.reads ≡ store.old.reads }
     ensures rooms { widths rooms.new ≡ widths rooms.old }
     ensures spread { IsSpread plan.now.roots (node_row plan.now.sources node) (length (node_row plan.now.sources node)) (computed circuit.now rows.now (digits_in store.old.nets) node) store.old.nets store.new.nets }
-    ensures steps { steps.new ≡ steps.old + steps_of node }
 {
     match node {
         Node::Cell(n) => compute_cell(circuit, plan, n, store, steps),

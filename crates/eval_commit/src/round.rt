@@ -1,5 +1,5 @@
 //! One valuation of the nets.
-ghost use Rattle.std.specs.Prelude.{◌≡◌, ℕ, ◌+◌, true, length, map};
+ghost use Rattle.std.specs.Prelude.{◌≡◌, ℕ, true, length, map};
 ghost use Rattle.circuit.specs.Acyclic.{IsInOrder};
 ghost use Rattle.circuit.specs.State.{State};
 ghost use Rattle.circuit.specs.Valid.{is_valid};
@@ -14,6 +14,7 @@ ghost use Rattle.signal_words.specs.Values.{digits_in};
 ghost use Rattle.eval_commit.specs.Computed.{AreAllRows};
 ghost use Rattle.eval_commit.specs.Seeding.{IsSeeded};
 ghost use Rattle.eval_commit.specs.Evaluation.{AreInputsOf, Holds, IsBlank};
+ghost use Rattle.eval_commit.specs.Shown.{ShowsCells};
 
 use crate::node::compute;
 use crate::put::seed;
@@ -24,7 +25,7 @@ use sim_base::{Bits, Steps};
 use std::sync::ledger::Ledger;
 
 /// Writes the bits of the roots that take constants, inputs, registers and read ports.
-fn seed_store(plan: &Plan, inputs: &[Bits], store: &mut Store)
+pub(crate) fn seed_store(plan: &Plan, inputs: &[Bits], store: &mut Store)
     requires { (c : TheCircuit) × AreRoots c plan.now.roots × AreInputsOf c inputs.now × IsStoreOf c store.old }
     ensures nets { widths store.new.nets ≡ widths store.old.nets }
     ensures cells { store.new.cells ≡ store.old.cells }
@@ -44,7 +45,7 @@ fn seed_store(plan: &Plan, inputs: &[Bits], store: &mut Store)
 
 /// Gives each net the number that it has under the state that the store and the rows hold, and under these
 /// inputs: one value for each, in the order of the circuit's inputs. Each memory lends a room of the width
-/// of its rows. Takes a step for each cell, and no memory.
+/// of its rows. Each node of the plan is evaluated. It takes no memory.
 pub(crate) fn evaluate<L: Ledger>(
     circuit: &Circuit,
     plan: &Plan,
@@ -71,7 +72,7 @@ pub(crate) fn evaluate<L: Ledger>(
     ensures reads { store.new.reads ≡ store.old.reads }
     ensures rooms { widths rooms.new ≡ widths rooms.old }
     ensures blank { IsBlank plan.now.roots store.new.nets }
-    ensures steps { steps.new ≡ steps.old + length circuit.now.cells }
+    ensures shown { (state : State) → Holds circuit.now rows.now store.old state → ShowsCells circuit.now plan.now store.new.nets }
 {
     one_valuation(circuit);
     seed_store(plan, inputs, store);

@@ -1,5 +1,6 @@
 //! One round of a circuit.
-ghost use Rattle.std.specs.Prelude.{◌≡◌, ◌+◌, ◌<◌, IfOk, not, length, true};
+ghost use Rattle.std.specs.Prelude.{◌≡◌, ◌+◌, ◌<◌, IfOk, not, true};
+ghost use Rattle.cell_changes.specs.Changes.{changed_cells};
 ghost use Rattle.circuit.specs.Next.{next};
 ghost use Rattle.circuit.specs.Rounds.{start, start_state};
 ghost use Rattle.circuit.specs.State.{same_state};
@@ -12,12 +13,14 @@ ghost use Rattle.eval_commit.specs.Fired.{all_fired_after, none_fired};
 ghost use Rattle.eval_commit.specs.Evaluation.{AreInputsOf};
 ghost use Rattle.eval_plan.specs.Plans.{IsPlanOf};
 ghost use Rattle.eval_commit.specs.Invariant.{AreRoundsOf, standing_of, state_of};
+ghost use Rattle.eval_commit.specs.Shown.{ShowsCells};
 
 use crate::diagnostics::{next_fired, start_fired};
 use crate::ports::{Ports, next_mems, put_reads, start_ports};
 use crate::registers::{next_regs, put_regs};
 use crate::round::evaluate;
 use crate::start::{law_of_first_state, rooms_of, start_rows, zero_inputs};
+use crate::update::update;
 use circuit::{Circuit, Listing, Store, start_regs};
 use eval_plan::Plan;
 use memory_cells::Rows;
@@ -70,6 +73,7 @@ impl Rounds {
     pub(crate) fn start(alloc: Global, circuit: &Circuit, plan: &Plan) -> Result<Rounds, NoMemory>
         requires { IsPlanOf circuit.now plan.now }
         ensures rounds { IfOk result (λ r. AreRoundsOf circuit.now plan.now r) }
+        ensures shown { IfOk result (λ r. ShowsCells circuit.now plan.now r.before.nets) }
         ensures standing { IfOk result (λ r. standing_of r ≡ start circuit.now) }
         ensures fired { IfOk result (λ r. r.fired ≡ none_fired circuit.now.diags) }
     {
@@ -95,16 +99,26 @@ impl Rounds {
         requires parts { blank.parts ≡ L.parts }
         requires some { 0 < blank.parts }
         ensures rounds { AreRoundsOf circuit.now plan.now self.new }
+        ensures shown { ShowsCells circuit.now plan.now self.new.before.nets }
         ensures state { state_of self.new ≡ state_of self.old }
         ensures fired { self.new.fired ≡ self.old.fired }
         ensures nets { numbers self.new.before.nets ≡ valuation circuit.now (state_of self.old) (numbers inputs.now) }
     {
         let mut steps = Steps::<L>::new(blank);
-        self.value_nets(circuit, plan, inputs, &mut steps);
-        mem::swap(&mut self.before, &mut self.now);
+        put_regs(&self.regs, &mut self.before);
+        put_reads(self.ports.as_slice(), &mut self.before);
+        evaluate(
+            circuit,
+            plan,
+            inputs,
+            self.rows.as_slice(),
+            &mut self.rooms,
+            &mut self.before,
+            &mut steps,
+        );
     }
 
-    /// Gives the nets their values under the state and these inputs.
+    /// Gives the nets their values under the state and these inputs, from those of the round before.
     fn value_nets<L: Ledger>(
         &mut self,
         circuit: &Circuit,
@@ -114,24 +128,28 @@ impl Rounds {
     )
         requires plan { IsPlanOf circuit.now plan.now }
         requires rounds { AreRoundsOf circuit.now plan.now self.old }
+        requires shown { ShowsCells circuit.now plan.now self.old.before.nets }
         requires inputs { AreInputsOf circuit.now inputs.now }
         ensures rounds { AreRoundsOf circuit.now plan.now self.new }
+        ensures shown { ShowsCells circuit.now plan.now self.new.now.nets }
         ensures regs { self.new.regs ≡ self.old.regs }
         ensures rows { self.new.rows ≡ self.old.rows }
         ensures ports { self.new.ports ≡ self.old.ports }
         ensures fired { self.new.fired ≡ self.old.fired }
         ensures before { self.new.before ≡ self.old.before }
         ensures nets { numbers self.new.now.nets ≡ valuation circuit.now (state_of self.old) (numbers inputs.now) }
-        ensures steps { steps.new ≡ steps.old + length circuit.now.cells }
+        ensures steps { steps.new ≡ steps.old + changed_cells circuit.now.cells (round_of self.old.before self.new.now) }
     {
+        self.now.nets.copy_all(&self.before.nets);
         put_regs(&self.regs, &mut self.now);
         put_reads(self.ports.as_slice(), &mut self.now);
-        evaluate(
+        update(
             circuit,
             plan,
             inputs,
             self.rows.as_slice(),
             &mut self.rooms,
+            &self.before,
             &mut self.now,
             steps,
         );
@@ -160,7 +178,7 @@ impl Rounds {
     }
 
     /// Does one round, with the diagnostics that fire in it, and tells whether it changed the state. It takes
-    /// a step for each cell, and no memory.
+    /// a step for each cell of which some bit that it reads differs from the round before, and no memory.
     pub(crate) fn round<L: Ledger>(
         &mut self,
         circuit: &Circuit,
@@ -170,13 +188,15 @@ impl Rounds {
     ) -> bool
         requires plan { IsPlanOf circuit.now plan.now }
         requires rounds { AreRoundsOf circuit.now plan.now self.old }
+        requires shown { ShowsCells circuit.now plan.now self.old.before.nets }
         requires inputs { AreInputsOf circuit.now inputs.now }
         ensures rounds { AreRoundsOf circuit.now plan.now self.new }
+        ensures shown { ShowsCells circuit.now plan.now self.new.before.nets }
         ensures nets { numbers self.new.before.nets ≡ valuation circuit.now (state_of self.old) (numbers inputs.now) }
         ensures state { state_of self.new ≡ next circuit.now (state_of self.old) (numbers self.old.before.nets) (numbers self.new.before.nets) }
         ensures fired { self.new.fired ≡ all_fired_after circuit.now.diags self.old.fired (round_of self.old.before self.new.before) }
         ensures changed { result ≡ not (same_state (state_of self.new) (state_of self.old)) }
-        ensures steps { steps.new ≡ steps.old + length circuit.now.cells }
+        ensures steps { steps.new ≡ steps.old + changed_cells circuit.now.cells (round_of self.old.before self.new.before) }
     {
         self.value_nets(circuit, plan, inputs, steps);
         let changed = self.next_state(circuit);

@@ -1,4 +1,4 @@
-use Rattle.std.proofs.Common.{◌≡◌, ◌∙◌, List, refl, ap}
+use Rattle.std.proofs.Common.{◌∙◌, List, refl, ap}
 use Rattle.sim_base.specs.BitValue.{BitValue, bit_value, digit_after_copy}
 use Rattle.sim_base.specs.Values.{number_at, value_at, width_at, widths}
 use Rattle.sim_base.proofs.Held.{widths_kept}

@@ -1,16 +1,13 @@
-use Rattle.std.proofs.Common.{◌≡◌, ℕ, length, map, take, refl, ◌∙◌, ap, subst, arith}
+use Rattle.std.proofs.Common.{◌≡◌, ℕ, length, map, refl, ◌∙◌, ap, subst}
 use Rattle.sim_base.specs.Values.{numbers, widths}
 use Rattle.circuit.specs.Valuation.{digit_at}
 use Rattle.driver_check.specs.declared.parts.Node.TheVariants as node
-use Rattle.eval_commit.specs.Computed.{steps_of}
-use Rattle.eval_commit.proofs.Belonging.{counted_more, element, ended}
+use Rattle.eval_commit.proofs.Belonging.{element, ended}
 use Rattle.eval_commit.proofs.Keeping.{has_kept}
 use Rattle.eval_commit.proofs.Meaning.{AreRight, all_right}
 use Rattle.eval_commit.proofs.Rounding.{node_right, seeded_blank, seeded_right, spread_blank}
-use Rattle.std.proofs.Math.Seq.{take-length}
-use Rattle.eval_commit.proofs.Stepped.{steps_are}
+use Rattle.eval_commit.proofs.Updating.{shows_cells}
 use Rattle.eval_commit.proofs.Valued.{valued}
-use Rattle.std.specs.Prelude.{sum_by}
 use Rattle.eval_commit.proofs.round.evaluate.Goals as goal
 
 pub seed_store-requires : goal.seed_store-requires
@@ -31,7 +28,6 @@ loop-node-init g c = record {
   right = λ state digits holds valued.
       seeded_right c.args.circuit.now c.args.inputs.now c.args.rows.now c.args.store.now state digits c.args.plan.now.nodes c.requires.store holds c.args.plan.now.roots c.args.store.now.nets c.seed_store.new.store.nets
       c.requires.roots valued (has_kept c.args.circuit.now c.args.inputs.now c.args.store.now c.requires.inputs c.requires.store c.args.plan.now.roots c.requires.roots) c.requires.blank c.seed_store.ensures.seeded;
-  counted = omega arith;
 }
 
 pub compute-requires-clause-there : goal.compute-requires-clause-there
@@ -50,8 +46,6 @@ loop-node-preserved g c =
       right = λ state digits holds valued.
           node_right c.args.circuit.now c.args.inputs.now c.args.rows.now c.args.store.now state digits c.args.plan.now.nodes c.args.plan.now.roots c.args.plan.now.sources
           c.requires.nodes c.requires.roots c.requires.sources c.requires.rows holds valued c.loop-node.node-index c.loop-node.store.nets (c.loop-node.invariant.right state digits holds valued) _ c.compute.new.store.nets at c.compute.ensures.spread;
-      counted = counted_more steps_of c.args.plan.now.nodes c.as_slice-node-items.result.now c.loop-node.node-index c.args.steps.now c.loop-node.steps c.compute.new.steps (node.Cell 0)
-          c.as_slice-node-items.ensures c.loop-node-test.true c.compute.ensures.steps c.loop-node.invariant.counted;
     }
 
 pub returns-clause-digits : goal.returns-clause-digits
@@ -68,10 +62,7 @@ returns-clause-nets g c state holds =
     valued c.args.circuit.now state (numbers c.args.inputs.now) c.args.plan.now.roots c.loop-node.store.nets c.requires.roots (c.one_valuation.ensures.valuation state (numbers c.args.inputs.now)) c.loop-node.invariant.belongs.nets
     (returns-clause-digits g c state holds)
 
-pub returns-clause-steps : goal.returns-clause-steps
-returns-clause-steps g c =
-    let end : c.loop-node.node-index ≡ length c.args.plan.now.nodes =
-    ended c.args.plan.now.nodes c.as_slice-node-items.result.now c.loop-node.node-index c.as_slice-node-items.ensures c.loop-node-test.false c.loop-node.auto.node-index-end in
-    let whole : sum_by steps_of (take c.loop-node.node-index c.args.plan.now.nodes) ≡ sum_by steps_of c.args.plan.now.nodes =
-    ap (λ (k : ℕ). sum_by steps_of (take k c.args.plan.now.nodes)) end ∙ ap (λ ns. sum_by steps_of ns) (take-length c.args.plan.now.nodes) in
-    omega (arith, whole, c.loop-node.invariant.counted, steps_are c.args.circuit.now c.args.plan.now.nodes c.requires.nodes)
+pub returns-clause-shown : goal.returns-clause-shown
+returns-clause-shown g c state holds =
+    shows_cells c.args.circuit.now c.args.plan.now state (numbers c.args.inputs.now) (digit_at c.args.circuit.now state (numbers c.args.inputs.now)) c.loop-node.store.nets c.requires.roots c.requires.sources
+    (c.one_valuation.ensures.valuation state (numbers c.args.inputs.now)) (returns-clause-digits g c state holds)

@@ -1,11 +1,9 @@
-use Rattle.std.proofs.Common.{◌≡◌, ◌+◌, take}
-use Rattle.std.specs.Prelude.{sum_by}
+use Rattle.std.proofs.Common.{◌≡◌}
 use Rattle.circuit.specs.State.{State}
 use Rattle.circuit.specs.Signal.{Digits}
 use Rattle.circuit.specs.Valuation.{IsValuation}
 use Rattle.signal_words.specs.Stores.{IsStoreOf}
 use Rattle.sim_base.specs.Values.{numbers, widths}
-use Rattle.eval_commit.specs.Computed.{steps_of}
 use Rattle.eval_commit.specs.Evaluation.{Holds, IsBlank}
 use Rattle.eval_commit.proofs.Meaning.{AreRight}
 use Rattle.eval_commit.proofs.round.evaluate.Given as goal
@@ -18,5 +16,4 @@ invariant-loop-node g l = record {
   rooms_same : widths l.rooms ≡ widths l.fn.rooms;
   blank : IsBlank l.plan.roots l.store.nets;
   right : (state : State) (digits : Digits) → Holds l.circuit l.rows l.fn.store state → IsValuation l.circuit state (numbers l.inputs) digits → AreRight l.circuit l.plan.nodes l.plan.roots l.node-index digits l.store.nets;
-  counted : l.steps ≡ l.fn.steps + sum_by steps_of (take l.node-index l.plan.nodes);
 }

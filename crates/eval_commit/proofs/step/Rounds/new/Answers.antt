@@ -1,4 +1,4 @@
-use Rattle.std.proofs.Common.{◌≡◌, ◌∙◌, ap, map, arith}
+use Rattle.std.proofs.Common.{◌∙◌, ap, map, arith}
 use Rattle.circuit.specs.Valid.{register_words}
 use Rattle.circuit.specs.declared.register.Reg.{Reg}
 use Rattle.circuit.proofs.Grown.{fitting_of}
