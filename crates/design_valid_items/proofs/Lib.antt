@@ -1,0 +1,5 @@
+mod Texts
+pub mod Growing
+pub mod Leaves
+pub mod Instances
+pub mod Design

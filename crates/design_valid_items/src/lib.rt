@@ -1,0 +1,6 @@
+//! What a whole design shows: its items, its scopes and the texts of its diagnostics.
+#![tactic(auto)]
+
+mod laws;
+
+pub use laws::law_of_items;
