@@ -1,0 +1,4 @@
+mod Counts
+mod Staying
+mod Top
+pub mod Design
