@@ -1,0 +1,4 @@
+pub mod Line
+pub mod Modes
+pub mod Asked
+pub mod Top
