@@ -184,8 +184,6 @@ impl Stimulus {
     }
 
     /// The place of the block of sample `k`, by halving.
-    #[cold]
-    #[inline(never)]
     fn find(&self, k: u64) -> usize
         requires { k < sample_count self.now }
         ensures { HasSample self.now.blocks result k }
@@ -204,6 +202,8 @@ impl Stimulus {
     }
 
     /// Where sample `k` stands.
+    #[cold]
+    #[inline(never)]
     fn find_row(&self, k: u64) -> Standing
         requires { k < sample_count self.now }
         ensures sample { result.sample ≡ k }
@@ -224,49 +224,51 @@ impl Stimulus {
         }
     }
 
-    /// Where sample `k` stands, if it is the next one of the same block.
-    fn next_row(&self, at: Standing, k: u64) -> Option<Standing>
-        requires { Stands self.now at }
-        ensures sample { IfSome result (λ next. next.sample ≡ k) }
-        ensures stands { IfSome result (Stands self.now) }
+    /// Where sample `k` stands, which is looked for first behind where another stands: there the next sample of a block
+    /// is found with no division.
+    #[inline(always)]
+    fn find_behind(&self, at: Standing, k: u64) -> Standing
+        requires there { k < sample_count self.now }
+        requires stands { Stands self.now at }
+        ensures sample { result.sample ≡ k }
+        ensures stands { Stands self.now result }
     {
         let placed = &self.blocks[at.block];
         let block = &placed.block;
         let sample = at.sample + 1;
         if k != sample {
-            return None;
+            return self.find_row(k);
         }
         let row = at.row + 1;
         if row < block.rows.len() {
-            return Some(Standing { sample, row, ..at });
+            return Standing { sample, row, ..at };
         }
         let repeat = at.repeat + 1;
         if repeat == block.repeats {
-            return None;
+            return self.find_row(k);
         }
         let start = at.start + block.period.femtoseconds();
-        Some(Standing {
+        Standing {
             sample,
             block: at.block,
             repeat,
             row: 0,
             start,
-        })
+        }
     }
 
     /// Where sample `k` stands, which is looked for first behind the one where a reader stood.
+    #[inline(always)]
     fn find_near(&self, place: Place, k: u64) -> Standing
         requires there { k < sample_count self.now }
         requires place { IsPlace self.now place }
         ensures sample { result.sample ≡ k }
         ensures stands { Stands self.now result }
     {
-        if let Some(last) = place.last {
-            if let Some(next) = self.next_row(last, k) {
-                return next;
-            }
+        match place.last {
+            Some(last) => self.find_behind(last, k),
+            None => self.find_row(k),
         }
-        self.find_row(k)
     }
 
     /// The time of the sample that stands there.
