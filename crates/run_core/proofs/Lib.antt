@@ -1,0 +1,6 @@
+mod Writing
+mod Items
+mod Shown
+mod Steps
+mod Given
+mod Slots

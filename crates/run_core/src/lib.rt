@@ -1,0 +1,12 @@
+//! The samples of a circuit under a stimulus, one after another, in the words in which they are recorded.
+#![tactic(auto)]
+
+mod laws;
+mod next;
+mod progress;
+mod runner;
+mod words;
+
+pub use laws::law_of_samples;
+pub use next::Next;
+pub use runner::Runner;
