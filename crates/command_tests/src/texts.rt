@@ -1,0 +1,12 @@
+//! The texts of the program about itself.
+use command_words::{HELP_TEXT, VERSION_TEXT};
+
+#[test]
+fn texts_have_lines_of_at_most_80_bytes(rt: HostRuntime) {
+    for text in [HELP_TEXT, VERSION_TEXT] {
+        assert!(rt; text.ends_with("\n"));
+        for line in text.lines() {
+            assert!(rt; line.len() <= 80, "{line}");
+        }
+    }
+}
