@@ -1,0 +1,6 @@
+mod Spaces
+mod Adding
+mod Owned
+mod Leaves
+mod Stepping
+pub mod Walked

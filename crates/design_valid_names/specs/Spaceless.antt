@@ -1,0 +1,19 @@
+-- Names without a space.
+use Rattle.std.specs.Prelude.{ℕ, ◌==◌, List, Bool, true, drop, not}
+use Rattle.std.specs.List.{list_all}
+use Rattle.rtlil_tree.specs.declared.module.Module.{Module}
+use Rattle.rtlil_tree.specs.declared.module.Statement.{Statement}
+use Rattle.rtlil_tree.specs.declared.module.Statement.TheVariants as statement
+
+-- no byte of a text is a space
+abbrev pub has_no_space : List ℕ → Bool
+has_no_space text = list_all (λ c. not (c == 32)) text
+
+-- the name of a wire or of a cell has none behind its first byte
+abbrev pub is_spaceless : Statement → Bool
+is_spaceless (statement.Wire w) = has_no_space (drop 1 w.name)
+is_spaceless (statement.Cell c) = has_no_space (drop 1 c.name)
+is_spaceless _ = true
+
+abbrev pub is_spaceless_module : Module → Bool
+is_spaceless_module m = list_all is_spaceless m.statements
