@@ -3,7 +3,7 @@ use Rattle.std.proofs.Common.{◌≡◌, ℕ, zero, suc, ◌+◌, ◌-◌, ◌<�
 use Rattle.std.specs.List.{filter, range_with_len}
 use Rattle.std.specs.Str.{bytes_eq}
 use Rattle.std.proofs.Math.Seq.{take-add}
-use Rattle.std.proofs.lemmas.List.{append-nil, drop-drop, drop-take, take-take}
+use Rattle.std.proofs.lemmas.List.{append-nil, drop-drop, drop-take, drop_more, take-take}
 use Rattle.std.proofs.lemmas.List.Concat.{flat_map-append}
 use Rattle.std.proofs.lemmas.List.Elements.{filter-append}
 use Rattle.std.proofs.lemmas.List.Sums.{sum_by-append, sum_by-take-le, sum_by_more, length-filter, count_by-le-length}
@@ -112,9 +112,37 @@ none_changed ws old new a e p q low within is_p is_q same =
     let one : slot_words ws old n ≡ slot_words ws new n = slot_same ws old new a e n from (omega arith) within there in
     ap not ((bytes_eq-Decides (slot_words ws old n) (slot_words ws new n)).1 one))
 
--- where all words are the same none has changed
-pub all_same : (ws old new : List ℕ) → bytes_eq old new ≡ true → changed_slots ws old new ≡ []
-all_same ws old new same =
-    let one : old ≡ new = (bytes_eq-Decides old new).0 same in
-    none_differ ws old new 0 (length ws) (λ n from to.
-    ap not ((bytes_eq-Decides (slot_words ws old n) (slot_words ws new n)).1 (ap (λ xs. slot_words ws xs n) one)))
+-- ---- runs of words that are the same
+
+in_two : (xs : List ℕ) (p a b : ℕ) → p ≤ a → a ≤ b → take (b - p) (drop p xs) ≡ take (a - p) (drop p xs) ++ take (b - a) (drop a xs)
+in_two xs p a b low high =
+    let whole : (a - p) + (b - a) ≡ b - p = omega arith in
+    let at : p + (a - p) ≡ a = omega arith in
+    ap (λ n. take n (drop p xs)) (sym whole) ∙ take-add (a - p) (b - a) (drop p xs)
+    ∙ ap (λ rest. take (a - p) (drop p xs) ++ take (b - a) rest) (drop-drop (a - p) p xs ∙ ap (λ n. drop n xs) at)
+
+pub same_none : (old new : List ℕ) (p : ℕ) → take (p - p) (drop p old) ≡ take (p - p) (drop p new)
+same_none old new p =
+    let none : p - p ≡ 0 = omega arith in
+    ap (λ n. take n (drop p old)) none ∙ sym (ap (λ n. take n (drop p new)) none)
+
+-- up to a place, and on from there
+pub same_on : (old new : List ℕ) (p a b : ℕ) → p ≤ a → a ≤ b → take (a - p) (drop p old) ≡ take (a - p) (drop p new)
+    → take (b - a) (drop a old) ≡ take (b - a) (drop a new) → take (b - p) (drop p old) ≡ take (b - p) (drop p new)
+same_on old new p a b low high one two =
+    in_two old p a b low high ∙ ap (λ xs. xs ++ take (b - a) (drop a old)) one
+    ∙ ap (λ xs. take (a - p) (drop p new) ++ xs) two ∙ sym (in_two new p a b low high)
+
+-- one word more
+pub same_next : (old new : List ℕ) (p a : ℕ) → p ≤ a → a < length old → a < length new → take (a - p) (drop p old) ≡ take (a - p) (drop p new)
+    → get_or old a 0 ≡ get_or new a 0 → take (a + 1 - p) (drop p old) ≡ take (a + 1 - p) (drop p new)
+same_next old new p a low in_old in_new before word =
+    let one : a + 1 - a ≡ 1 = omega arith in
+    let next : take (a + 1 - a) (drop a old) ≡ take (a + 1 - a) (drop a new) =
+    ap (λ n. take n (drop a old)) one ∙ ap (take 1) (drop_more old a 0 in_old) ∙ ap (λ w. w ∷ []) word
+    ∙ sym (ap (take 1) (drop_more new a 0 in_new)) ∙ sym (ap (λ n. take n (drop a new)) one) in
+    same_on old new p a (a + 1) low (omega arith) before next
+
+pub same_less : (old new : List ℕ) (p a b : ℕ) → p ≤ a → a ≤ b → take (b - p) (drop p old) ≡ take (b - p) (drop p new) → take (a - p) (drop p old) ≡ take (a - p) (drop p new)
+same_less old new p a b low high same =
+    sym (take-take (a - p) (b - p) (drop p old) (omega arith)) ∙ ap (take (a - p)) same ∙ take-take (a - p) (b - p) (drop p new) (omega arith)

@@ -13,8 +13,14 @@ const WORD: u128 = 1 << 32;
 /// How many values two words have.
 const TWO_WORDS: u128 = 1 << 64;
 
-/// How many slots are compared at once.
-const BLOCK: usize = 64;
+/// How many words are compared at once.
+const RUN: usize = 256;
+
+/// How many words are compared at once where those of a run are not all the same.
+const PART: usize = 32;
+
+/// How many slots are compared one by one, from the first that differs on.
+const BLOCK: usize = 4;
 
 /// Appends the whole record of a sample. Where memory is wanting, the words are as before.
 pub fn write_whole(shape: &Shape, s: &Sample, into: &mut Vec<u32>) -> Result<(), NoMemory>
@@ -92,8 +98,15 @@ fn time_words(time: Time) -> [u32; 3]
     ]
 }
 
-/// Appends the slots that differ, each with its words, and answers how many they are. Blocks of slots whose words are all
-/// the same are passed over as a whole.
+/// A slot, and the place where its words begin.
+#[derive(Clone, Copy)]
+struct Reached {
+    slot: usize,
+    place: usize,
+}
+
+/// Appends the slots that differ, each with its words, and answers how many they are. Words are compared first, and slots
+/// are looked for where words differ.
 fn append_slots(
     widths: &[u32],
     old: &[u32],
@@ -107,35 +120,143 @@ fn append_slots(
     ensures ok { is_ok result ≡ true → into.new.items ≡ into.old.items ++ slots_with_words widths.now new.now (changed_slots widths.now old.now new.now) }
     ensures begins { take (length into.old.items) into.new.items ≡ into.old.items }
 {
-    if same(old, new) {
-        return Ok(0);
-    }
     let mut slot = 0usize;
     let mut place = 0usize;
     let mut count = 0u32;
     while slot < widths.len() {
-        let end = block_end(slot, widths.len());
-        let place_end = place + room_of(&widths[slot..end]);
-        if !same(&old[place..place_end], &new[place..place_end]) {
-            count += append_block(widths, slot, end, old, new, place, into)?;
-        }
+        let reached = pass_same(widths, old, new, slot, place);
+        let end = block_end(reached.slot, widths.len(), BLOCK);
+        let place_end = reached.place + room_of(&widths[reached.slot..end]);
+        count += append_block(widths, reached.slot, end, old, new, reached.place, into)?;
         slot = end;
         place = place_end;
     }
     Ok(count)
 }
 
-/// Where the block of slots that begins at a slot ends.
-fn block_end(slot: usize, len: usize) -> usize
-    requires { slot < len }
-    ensures more { slot < result }
+/// Passes over slots whose words are the same: up to the first that differs, or all.
+fn pass_same(widths: &[u32], old: &[u32], new: &[u32], slot: usize, place: usize) -> Reached
+    requires before { length old.now ≡ words_of_widths widths.now }
+    requires after { length new.now ≡ words_of_widths widths.now }
+    requires within { slot ≤ length widths.now }
+    requires place { place ≡ place_of widths.now slot }
+    ensures order { slot ≤ result.slot }
+    ensures within { result.slot ≤ length widths.now }
+    ensures place { result.place ≡ place_of widths.now result.slot }
+    ensures same { take (result.place - place) (drop place old.now) ≡ take (result.place - place) (drop place new.now) }
+{
+    let run = same_until(old, new, place, RUN);
+    let part = same_until(old, new, run, PART);
+    let end = first_difference(old, new, part);
+    if end == new.len() {
+        return Reached {
+            slot: widths.len(),
+            place: end,
+        };
+    }
+    reach(widths, slot, place, end)
+}
+
+/// Up to where words are the same from a place on, step by step.
+fn same_until(old: &[u32], new: &[u32], from: usize, step: usize) -> usize
+    requires long { length old.now ≡ length new.now }
+    requires some { 0 < step }
+    requires within { from ≤ length new.now }
+    ensures order { from ≤ result }
+    ensures within { result ≤ length new.now }
+    ensures same { take (result - from) (drop from old.now) ≡ take (result - from) (drop from new.now) }
+{
+    let mut at = from;
+    while at < new.len() {
+        let end = block_end(at, new.len(), step);
+        if !same(&old[at..end], &new[at..end]) {
+            return at;
+        }
+        at = end;
+    }
+    at
+}
+
+/// The first place from one on where words differ, or their end.
+fn first_difference(old: &[u32], new: &[u32], from: usize) -> usize
+    requires long { length old.now ≡ length new.now }
+    requires within { from ≤ length new.now }
+    ensures order { from ≤ result }
+    ensures within { result ≤ length new.now }
+    ensures same { take (result - from) (drop from old.now) ≡ take (result - from) (drop from new.now) }
+{
+    let mut at = from;
+    while at < new.len() {
+        if old[at] != new[at] {
+            return at;
+        }
+        at += 1;
+    }
+    at
+}
+
+/// Goes on from a slot as long as the words of slots end at or before a place.
+fn reach(widths: &[u32], slot: usize, place: usize, end: usize) -> Reached
+    requires few { words_of_widths widths.now < 2 ^ 64 }
+    requires order { place ≤ end }
+    requires end { end ≤ words_of_widths widths.now }
+    requires within { slot ≤ length widths.now }
+    requires place { place ≡ place_of widths.now slot }
+    ensures order { slot ≤ result.slot }
+    ensures within { result.slot ≤ length widths.now }
+    ensures place { result.place ≡ place_of widths.now result.slot }
+    ensures from { place ≤ result.place }
+    ensures end { result.place ≤ end }
+{
+    let words = end - place;
+    if words <= widths.len() - slot && is_one_each(&widths[slot..slot + words]) {
+        return Reached {
+            slot: slot + words,
+            place: end,
+        };
+    }
+    walk(widths, slot, place, end)
+}
+
+/// The same, slot by slot.
+fn walk(widths: &[u32], slot: usize, place: usize, end: usize) -> Reached
+    requires few { words_of_widths widths.now < 2 ^ 64 }
+    requires order { place ≤ end }
+    requires within { slot ≤ length widths.now }
+    requires place { place ≡ place_of widths.now slot }
+    ensures order { slot ≤ result.slot }
+    ensures within { result.slot ≤ length widths.now }
+    ensures place { result.place ≡ place_of widths.now result.slot }
+    ensures from { place ≤ result.place }
+    ensures end { result.place ≤ end }
+{
+    let mut next = slot;
+    let mut start = place;
+    while next < widths.len() {
+        let behind = start + widths[next].div_ceil(32) as usize;
+        if behind > end {
+            return Reached {
+                slot: next,
+                place: start,
+            };
+        }
+        next += 1;
+        start = behind;
+    }
+    Reached {
+        slot: next,
+        place: start,
+    }
+}
+
+/// Where a block that begins at a place ends.
+fn block_end(at: usize, len: usize, block: usize) -> usize
+    requires { at ≤ len }
+    ensures order { at ≤ result }
+    ensures more { at < len → 0 < block → at < result }
     ensures within { result ≤ len }
 {
-    if len - slot <= BLOCK {
-        len
-    } else {
-        slot + BLOCK
-    }
+    if len - at <= block { len } else { at + block }
 }
 
 /// How many words slots of these widths take.
