@@ -7,6 +7,8 @@ pub mod Rounding
 pub mod Valued
 pub mod Stepped
 pub mod Updating
+pub mod Telling
+pub mod Marking
 pub mod Starting
 pub mod PortsOver
 pub mod PortsKept

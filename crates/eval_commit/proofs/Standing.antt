@@ -21,6 +21,7 @@ use Rattle.eval_commit.specs.Computed.{AreAllRows}
 use Rattle.eval_commit.specs.Fired.{none_fired}
 use Rattle.eval_commit.specs.Evaluation.{Holds, IsBlank, input_width}
 use Rattle.eval_commit.specs.Invariant.{ArePortsOf, AreRoundsOf, standing_of, state_of}
+use Rattle.eval_commit.specs.Marked.{AreReadPlaces}
 use Rattle.eval_commit.specs.KeptState.{kept_state, stored_all}
 use Rattle.eval_commit.specs.declared.step.Rounds.{Rounds}
 use Rattle.eval_commit.proofs.Firing.{none_fired_length}
@@ -52,7 +53,7 @@ zero_numbers f [] = refl
 zero_numbers f (n ∷ ns) = ap (λ xs. 0 ∷ xs) (zero_numbers f ns)
 
 -- the registers, rows and read ports have their start values, both stores are those of the start, and no diagnostic has fired
-pub record AreFirst (c : Circuit) (r : Rounds) : Type 0 where
+pub record AreFirst (c : Circuit) (plan : Plan) (r : Rounds) : Type 0 where
   pub regs : r.regs ≡ map (λ x. x.init) c.regs
   pub rows : r.rows ≡ map start_rows c.mems
   pub ports : r.ports ≡ map (λ m. map (λ p. p.init) m.reads) c.mems
@@ -60,8 +61,10 @@ pub record AreFirst (c : Circuit) (r : Rounds) : Type 0 where
   pub now : r.now ≡ start_store c
   pub rooms : widths r.rooms.items ≡ map (λ m. m.width) c.mems
   pub fired : r.fired ≡ none_fired c.diags
+  pub marks : r.marks.width ≡ length plan.nodes
+  pub reads : AreReadPlaces plan.nodes r.reads.items
 
-pub first_rounds : (c : Circuit) (plan : Plan) (r : Rounds) → AreFirst c r → IsStoreOf c (start_store c) → AreAllRows c (map start_rows c.mems) → IsBlank plan.roots (start_store c).nets
+pub first_rounds : (c : Circuit) (plan : Plan) (r : Rounds) → AreFirst c plan r → IsStoreOf c (start_store c) → AreAllRows c (map start_rows c.mems) → IsBlank plan.roots (start_store c).nets
     → is_valid c ≡ true → AreRoundsOf c plan r
 first_rounds c plan r is of sized blank valid = record {
   regs = ap widths is.regs ∙ of.regs;
@@ -73,11 +76,13 @@ first_rounds c plan r is of sized blank valid = record {
   now_blank = subst (λ (s : Store). IsBlank plan.roots s.nets) (sym is.now) blank;
   rooms = is.rooms;
   fired = ap length is.fired ∙ none_fired_length c.diags;
+  marks = is.marks;
+  reads = is.reads;
 }
 
 -- other flags, as many
 pub flags_put : (c : Circuit) (plan : Plan) (r : Rounds) (fired : List Bool) → AreRoundsOf c plan r → length fired ≡ length r.fired
-    → AreRoundsOf c plan (record { regs = r.regs; rows = r.rows; ports = r.ports; before = r.before; now = r.now; rooms = r.rooms; fired = fired })
+    → AreRoundsOf c plan (record { regs = r.regs; rows = r.rows; ports = r.ports; before = r.before; now = r.now; rooms = r.rooms; fired = fired; marks = r.marks; reads = r.reads })
 flags_put c plan r fired is e = record {
   regs = is.regs;
   rows = is.rows;
@@ -88,11 +93,13 @@ flags_put c plan r fired is e = record {
   now_blank = is.now_blank;
   rooms = is.rooms;
   fired = e ∙ is.fired;
+  marks = is.marks;
+  reads = is.reads;
 }
 
 -- the stores of the round before and of the round change places
 pub stores_swapped : (c : Circuit) (plan : Plan) (r : Rounds) (before now : Store) → AreRoundsOf c plan r → before ≡ r.now → now ≡ r.before
-    → AreRoundsOf c plan (record { regs = r.regs; rows = r.rows; ports = r.ports; before = before; now = now; rooms = r.rooms; fired = r.fired })
+    → AreRoundsOf c plan (record { regs = r.regs; rows = r.rows; ports = r.ports; before = before; now = now; rooms = r.rooms; fired = r.fired; marks = r.marks; reads = r.reads })
 stores_swapped c plan r before now is e f = record {
   regs = is.regs;
   rows = is.rows;
@@ -103,10 +110,12 @@ stores_swapped c plan r before now is e f = record {
   now_blank = subst (λ (s : Store). IsBlank plan.roots s.nets) (sym f) is.before_blank;
   rooms = is.rooms;
   fired = is.fired;
+  marks = is.marks;
+  reads = is.reads;
 }
 
-pub first_state : (c : Circuit) (r : Rounds) → AreFirst c r → state_of r ≡ start_state c
-first_state c r is =
+pub first_state : (c : Circuit) (plan : Plan) (r : Rounds) → AreFirst c plan r → state_of r ≡ start_state c
+first_state c plan r is =
     ap (λ (vs : List BitValue). kept_state vs r.rows r.ports) is.regs
     ∙ ap (λ (rs : List RowValues). kept_state (map (λ (x : Reg). x.init) c.regs) rs r.ports) is.rows
     ∙ ap (λ (os : List (List BitValue)). kept_state (map (λ (x : Reg). x.init) c.regs) (map start_rows c.mems) os) is.ports

@@ -43,7 +43,7 @@ stays_spread roots places number now nets shown e = record {
 
 -- ---- what cells give under a valuation
 
-some_cell_same : (o : Option Cell) (d e : Digits) → ((net bit : ℕ) → CellReads o net bit → d net bit ≡ e net bit) → cell_number d o ≡ cell_number e o
+pub some_cell_same : (o : Option Cell) (d e : Digits) → ((net bit : ℕ) → CellReads o net bit → d net bit ≡ e net bit) → cell_number d o ≡ cell_number e o
 some_cell_same None d e h = refl
 some_cell_same (Some x) d e h = cell_same x d e h
 

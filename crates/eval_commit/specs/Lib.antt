@@ -1,4 +1,5 @@
 pub mod Spread
+pub mod Marked
 pub mod Seeding
 pub mod Computed
 pub mod Shown

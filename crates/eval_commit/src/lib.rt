@@ -5,6 +5,7 @@
 mod copy;
 mod diagnostics;
 mod machine;
+mod marks;
 mod node;
 mod ports;
 mod put;

@@ -11,12 +11,14 @@ ghost use Rattle.signal_words.specs.Stores.{IsStoreOf};
 ghost use Rattle.sim_base.specs.Values.{numbers, widths};
 ghost use Rattle.signal_words.specs.Values.{digits_in};
 ghost use Rattle.eval_commit.specs.Computed.{AreAllRows, cell_number, computed, node_row, read_number};
+ghost use Rattle.eval_commit.specs.Marked.{AreTold, HaveMarks, ReadListed};
 ghost use Rattle.eval_commit.specs.Spread.{IsSpread};
 
 use crate::put::spread;
 use cell_wide::eval_wide;
 use cell_words::eval;
 use circuit::{Circuit, Op, Store};
+use dirty_set::DirtySet;
 use driver_check::Node;
 use eval_plan::Plan;
 use memory_cells::{Rows, law_of_memories, read_port};
@@ -59,12 +61,14 @@ fn eval_cell<L: Ledger>(circuit: &Circuit, n: u32, store: &mut Store, steps: &mu
     }
 }
 
-/// Evaluates a cell, and writes the bits of the roots that take from it.
+/// Evaluates a cell, writes the bits of the roots that take from it, and marks what reads them where their
+/// nets changed.
 pub(crate) fn compute_cell<L: Ledger>(
     circuit: &Circuit,
     plan: &Plan,
     n: u32,
     store: &mut Store,
+    marks: &mut DirtySet,
     steps: &mut Steps<L>,
 )
     requires valid { is_valid circuit.now ≡ true }
@@ -72,20 +76,30 @@ pub(crate) fn compute_cell<L: Ledger>(
     requires sources { AreSources circuit.now plan.now.roots plan.now.sources }
     requires store { IsStoreOf circuit.now store.old }
     requires there { n < length circuit.now.cells }
+    requires marks { HaveMarks plan.now.readers marks.old }
     ensures store { IsStoreOf circuit.now store.new }
     ensures regs { store.new.regs ≡ store.old.regs }
     ensures reads { store.new.reads ≡ store.old.reads }
     ensures spread { IsSpread plan.now.roots (cell_row plan.now.sources n) (length (cell_row plan.now.sources n)) (cell_number (digits_in store.old.nets) (slice_get circuit.now.cells n)) store.old.nets store.new.nets }
+    ensures told { AreTold plan.now.roots plan.now.readers store.old.nets store.new.nets marks.old marks.new }
+    ensures listed { ReadListed plan.now.readers (cell_row plan.now.sources n) marks.old marks.new }
     ensures step { steps.new ≡ steps.old + 1 }
 {
     eval_cell(circuit, n, store, steps);
     let places = plan.sources.roots_of_cell(n);
     let from = store.cells.view(n);
-    spread(&mut store.nets, plan.roots.as_slice(), places, &from);
+    spread(
+        &mut store.nets,
+        plan.roots.as_slice(),
+        places,
+        &from,
+        &plan.readers,
+        marks,
+    );
 }
 
-/// Reads the row at the address of a read port into a memory's room, and writes the bits of the roots that
-/// take from the port.
+/// Reads the row at the address of a read port into a memory's room, writes the bits of the roots that take
+/// from the port, and marks what reads them where their nets changed.
 pub(crate) fn compute_read(
     circuit: &Circuit,
     plan: &Plan,
@@ -94,6 +108,7 @@ pub(crate) fn compute_read(
     rows: &[Rows],
     rooms: &mut [Bits],
     store: &mut Store,
+    marks: &mut DirtySet,
 )
     requires valid { is_valid circuit.now ≡ true }
     requires roots { AreRoots circuit.now plan.now.roots }
@@ -102,18 +117,28 @@ pub(crate) fn compute_read(
     requires rows { AreAllRows circuit.now rows.now }
     requires rooms { widths rooms.old ≡ map (λ m. m.width) circuit.now.mems }
     requires there { (x : TheMem) × (slice_get circuit.now.mems m ≡ Some x) × (n < length x.reads) }
+    requires marks { HaveMarks plan.now.readers marks.old }
     ensures store { IsStoreOf circuit.now store.new }
     ensures regs { store.new.regs ≡ store.old.regs }
     ensures reads { store.new.reads ≡ store.old.reads }
     ensures rooms { widths rooms.new ≡ widths rooms.old }
     ensures spread { IsSpread plan.now.roots (read_row plan.now.sources m n) (length (read_row plan.now.sources m n)) (read_number (digits_in store.old.nets) (slice_get circuit.now.mems m) (slice_get rows.now m) n) store.old.nets store.new.nets }
+    ensures told { AreTold plan.now.roots plan.now.readers store.old.nets store.new.nets marks.old marks.new }
+    ensures listed { ReadListed plan.now.readers (read_row plan.now.sources m n) marks.old marks.new }
 {
     law_of_memories();
     let mem = &circuit.mems.as_slice()[m as usize];
     let room = &mut rooms[m as usize];
     read_port(mem, n, &rows[m as usize], store, room);
     let places = plan.sources.roots_of_read(m, n);
-    spread(&mut store.nets, plan.roots.as_slice(), places, &room.view());
+    spread(
+        &mut store.nets,
+        plan.roots.as_slice(),
+        places,
+        &room.view(),
+        &plan.readers,
+        marks,
+    );
 }
 
 /// Evaluates a node, and writes the bits of the roots that take from it. It takes no memory.
@@ -124,6 +149,7 @@ pub(crate) fn compute<L: Ledger>(
     rows: &[Rows],
     rooms: &mut [Bits],
     store: &mut Store,
+    marks: &mut DirtySet,
     steps: &mut Steps<L>,
 )
     requires valid { is_valid circuit.now ≡ true }
@@ -133,14 +159,16 @@ pub(crate) fn compute<L: Ledger>(
     requires rows { AreAllRows circuit.now rows.now }
     requires rooms { widths rooms.old ≡ map (λ m. m.width) circuit.now.mems }
     requires there { IsNode circuit.now node }
+    requires marks { HaveMarks plan.now.readers marks.old }
     ensures store { IsStoreOf circuit.now store.new }
     ensures regs { store.new.regs ≡ store.old.regs }
     ensures reads { store.new.reads ≡ store.old.reads }
     ensures rooms { widths rooms.new ≡ widths rooms.old }
     ensures spread { IsSpread plan.now.roots (node_row plan.now.sources node) (length (node_row plan.now.sources node)) (computed circuit.now rows.now (digits_in store.old.nets) node) store.old.nets store.new.nets }
+    ensures marks { marks.new.width ≡ marks.old.width }
 {
     match node {
-        Node::Cell(n) => compute_cell(circuit, plan, n, store, steps),
-        Node::Read(m, n) => compute_read(circuit, plan, m, n, rows, rooms, store),
+        Node::Cell(n) => compute_cell(circuit, plan, n, store, marks, steps),
+        Node::Read(m, n) => compute_read(circuit, plan, m, n, rows, rooms, store, marks),
     }
 }

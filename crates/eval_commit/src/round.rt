@@ -14,24 +14,29 @@ ghost use Rattle.signal_words.specs.Values.{digits_in};
 ghost use Rattle.eval_commit.specs.Computed.{AreAllRows};
 ghost use Rattle.eval_commit.specs.Seeding.{IsSeeded};
 ghost use Rattle.eval_commit.specs.Evaluation.{AreInputsOf, Holds, IsBlank};
+ghost use Rattle.eval_commit.specs.Marked.{AreTold, HaveMarks};
 ghost use Rattle.eval_commit.specs.Shown.{ShowsCells};
 
 use crate::node::compute;
 use crate::put::seed;
 use circuit::{Circuit, Store, one_valuation};
+use dirty_set::DirtySet;
 use eval_plan::Plan;
 use memory_cells::Rows;
 use sim_base::{Bits, Steps};
 use std::sync::ledger::Ledger;
 
-/// Writes the bits of the roots that take constants, inputs, registers and read ports.
-pub(crate) fn seed_store(plan: &Plan, inputs: &[Bits], store: &mut Store)
-    requires { (c : TheCircuit) × AreRoots c plan.now.roots × AreInputsOf c inputs.now × IsStoreOf c store.old }
+/// Writes the bits of the roots that take constants, inputs, registers and read ports, and marks what reads
+/// them where their nets changed.
+pub(crate) fn seed_store(plan: &Plan, inputs: &[Bits], store: &mut Store, marks: &mut DirtySet)
+    requires fits { (c : TheCircuit) × AreRoots c plan.now.roots × AreInputsOf c inputs.now × IsStoreOf c store.old }
+    requires marks { HaveMarks plan.now.readers marks.old }
     ensures nets { widths store.new.nets ≡ widths store.old.nets }
     ensures cells { store.new.cells ≡ store.old.cells }
     ensures regs { store.new.regs ≡ store.old.regs }
     ensures reads { store.new.reads ≡ store.old.reads }
     ensures seeded { IsSeeded plan.now.roots (record { inputs = inputs.now; regs = store.old.regs; reads = store.old.reads }) (length plan.now.roots) store.old.nets store.new.nets }
+    ensures told { AreTold plan.now.roots plan.now.readers store.old.nets store.new.nets marks.old marks.new }
 {
     let reads = store.reads.as_slice();
     seed(
@@ -40,6 +45,8 @@ pub(crate) fn seed_store(plan: &Plan, inputs: &[Bits], store: &mut Store)
         inputs,
         &store.regs,
         reads,
+        &plan.readers,
+        marks,
     );
 }
 
@@ -53,6 +60,7 @@ pub(crate) fn evaluate<L: Ledger>(
     rows: &[Rows],
     rooms: &mut [Bits],
     store: &mut Store,
+    marks: &mut DirtySet,
     steps: &mut Steps<L>,
 )
     requires valid { is_valid circuit.now ≡ true }
@@ -65,6 +73,7 @@ pub(crate) fn evaluate<L: Ledger>(
     requires rooms { widths rooms.old ≡ map (λ m. m.width) circuit.now.mems }
     requires store { IsStoreOf circuit.now store.old }
     requires blank { IsBlank plan.now.roots store.old.nets }
+    requires marks { HaveMarks plan.now.readers marks.old }
     ensures nets { (state : State) → Holds circuit.now rows.now store.old state → numbers store.new.nets ≡ valuation circuit.now state (numbers inputs.now) }
     ensures digits { (state : State) → Holds circuit.now rows.now store.old state → (net bit : ℕ) → digits_in store.new.nets net bit ≡ digit_at circuit.now state (numbers inputs.now) net bit }
     ensures store { IsStoreOf circuit.now store.new }
@@ -72,11 +81,12 @@ pub(crate) fn evaluate<L: Ledger>(
     ensures reads { store.new.reads ≡ store.old.reads }
     ensures rooms { widths rooms.new ≡ widths rooms.old }
     ensures blank { IsBlank plan.now.roots store.new.nets }
+    ensures marks { marks.new.width ≡ marks.old.width }
     ensures shown { (state : State) → Holds circuit.now rows.now store.old state → ShowsCells circuit.now plan.now store.new.nets }
 {
     one_valuation(circuit);
-    seed_store(plan, inputs, store);
+    seed_store(plan, inputs, store, marks);
     for node in plan.nodes.as_slice() {
-        compute(circuit, plan, *node, rows, rooms, store, steps);
+        compute(circuit, plan, *node, rows, rooms, store, marks, steps);
     }
 }

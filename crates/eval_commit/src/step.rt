@@ -16,12 +16,14 @@ ghost use Rattle.eval_commit.specs.Invariant.{AreRoundsOf, standing_of, state_of
 ghost use Rattle.eval_commit.specs.Shown.{ShowsCells};
 
 use crate::diagnostics::{next_fired, start_fired};
+use crate::marks::read_places;
 use crate::ports::{Ports, next_mems, put_reads, start_ports};
 use crate::registers::{next_regs, put_regs};
 use crate::round::evaluate;
 use crate::start::{law_of_first_state, rooms_of, start_rows, zero_inputs};
 use crate::update::update;
 use circuit::{Circuit, Listing, Store, start_regs};
+use dirty_set::DirtySet;
 use eval_plan::Plan;
 use memory_cells::Rows;
 use signal_words::law_of_start;
@@ -46,13 +48,17 @@ pub(crate) struct Rounds {
     pub(crate) rooms: Vec<Bits>,
     /// For each diagnostic whether it fired in the rounds of the last sample.
     pub(crate) fired: Listing<bool>,
+    /// Which nodes of the plan are looked at in the next round, whatever changes.
+    pub(crate) marks: DirtySet,
+    /// The places of the read ports among the nodes.
+    pub(crate) reads: Vec<u32>,
 }
 
 impl Rounds {
     /// The state before the first sample, and nets that are all 0.
-    fn new(alloc: Global, circuit: &Circuit) -> Result<Rounds, NoMemory>
-        requires { is_valid circuit.now ≡ true }
-        ensures rounds { IfOk result (λ r. (plan : ThePlan) → AreRoundsOf circuit.now plan r) }
+    fn new(alloc: Global, circuit: &Circuit, plan: &Plan) -> Result<Rounds, NoMemory>
+        requires { IsPlanOf circuit.now plan.now }
+        ensures rounds { IfOk result (λ r. AreRoundsOf circuit.now plan.now r) }
         ensures state { IfOk result (λ r. state_of r ≡ start_state circuit.now) }
         ensures fired { IfOk result (λ r. r.fired ≡ none_fired circuit.now.diags) }
     {
@@ -66,6 +72,8 @@ impl Rounds {
             now: Store::new(alloc, circuit)?,
             rooms: rooms_of(alloc, circuit)?,
             fired: start_fired(alloc, circuit)?,
+            marks: DirtySet::new(alloc, plan.nodes.len() as u32)?,
+            reads: read_places(alloc, plan.nodes.as_slice())?,
         })
     }
 
@@ -77,7 +85,7 @@ impl Rounds {
         ensures standing { IfOk result (λ r. standing_of r ≡ start circuit.now) }
         ensures fired { IfOk result (λ r. r.fired ≡ none_fired circuit.now.diags) }
     {
-        let mut rounds = Rounds::new(alloc, circuit)?;
+        let mut rounds = Rounds::new(alloc, circuit, plan)?;
         let inputs = zero_inputs(alloc, circuit)?;
         rounds.first_nets::<Brand>(circuit, plan, inputs.as_slice(), Blank::new(1));
         Ok(rounds)
@@ -114,6 +122,7 @@ impl Rounds {
             self.rows.as_slice(),
             &mut self.rooms,
             &mut self.before,
+            &mut self.marks,
             &mut steps,
         );
     }
@@ -151,6 +160,8 @@ impl Rounds {
             &mut self.rooms,
             &self.before,
             &mut self.now,
+            self.reads.as_slice(),
+            &mut self.marks,
             steps,
         );
     }

@@ -5,6 +5,8 @@ use Rattle.circuit.specs.declared.cell.Cell.{Cell}
 use Rattle.driver_check.proofs.Places.{found}
 use Rattle.eval_commit.proofs.Written.{number_in, view_read}
 use Rattle.eval_commit.proofs.Belonging.{below_in, cell_listed, roots_inside, spread_as, value_read}
+use Rattle.eval_plan.specs.Sources.{cell_row}
+use Rattle.eval_commit.proofs.Telling.{listed_as, told_as}
 use Rattle.eval_commit.proofs.node.compute_cell.Goals as goal
 
 there : (vs : List BitValue) (cells : List Cell) (n : ℕ) → widths vs ≡ map (λ (x : Cell). x.width) cells → n < length cells → n < length vs
@@ -30,3 +32,11 @@ returns-clause-spread g c =
     let v = value_read (λ (y : Cell). y.width) c.eval_cell.new.store.cells c.eval_cell.new.store.cells c.args.circuit.now.cells c.args.n x.0 c.view-from.result c.eval_cell.ensures.store.cells x.1 refl (view_read c.eval_cell.new.store.cells c.args.n c.view-from.result (there c.eval_cell.new.store.cells c.args.circuit.now.cells c.args.n c.eval_cell.ensures.store.cells c.requires.there) c.view-from.ensures) in
     spread_as c.args.plan.now.roots c.as_slice.result.now _ c.roots_of_cell-places.result.now _ c.view-from.result.number c.args.store.now.nets c.eval_cell.new.store.nets c.spread.new.nets
     c.as_slice.ensures c.roots_of_cell-places.ensures (sym (number_in c.eval_cell.new.store.cells c.args.n c.view-from.result v.0) ∙ c.eval_cell.ensures.number) c.eval_cell.ensures.nets c.spread.ensures.spread
+
+pub returns-clause-told : goal.returns-clause-told
+returns-clause-told g c =
+    told_as c.args.plan.now.roots c.as_slice.result.now c.args.plan.now.readers c.args.store.now.nets c.eval_cell.new.store.nets c.spread.new.nets c.args.marks.now c.spread.new.marks c.as_slice.ensures c.eval_cell.ensures.nets c.spread.ensures.told
+
+pub returns-clause-listed : goal.returns-clause-listed
+returns-clause-listed g c =
+    listed_as c.args.plan.now.readers (cell_row c.args.plan.now.sources c.args.n) c.roots_of_cell-places.result.now c.args.marks.now c.spread.new.marks c.roots_of_cell-places.ensures c.spread.ensures.listed

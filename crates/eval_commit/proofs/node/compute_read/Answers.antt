@@ -7,6 +7,8 @@ use Rattle.driver_check.proofs.Places.{found, read, same, within}
 use Rattle.signal_words.specs.Values.{digits_in}
 use Rattle.eval_commit.proofs.Written.{put_widths}
 use Rattle.eval_commit.proofs.Belonging.{below_in, fetched, read_at, read_listed, roots_inside, spread_as, value_at}
+use Rattle.eval_plan.specs.Sources.{read_row}
+use Rattle.eval_commit.proofs.Telling.{listed_as, told_as}
 use Rattle.eval_commit.proofs.node.compute_read.Goals as goal
 
 pub bounds-rooms-m : goal.bounds-rooms-m
@@ -70,3 +72,11 @@ returns-clause-spread c =
     (ap (λ (u : BitValue). u.number) (c.view.ensures ∙ c.read_port.ensures p.0 p.1)
     ∙ sym (read_at (digits_in c.args.store.now.nets) c.args.circuit.now.mems c.args.rows.now c.args.m c.args.n c.index-as_slice-m.result c.index-rows-m.result p.0 at rows p.1))
     refl c.spread.ensures.spread
+
+pub returns-clause-told : goal.returns-clause-told
+returns-clause-told c =
+    told_as c.args.plan.now.roots c.as_slice-2.result.now c.args.plan.now.readers c.args.store.now.nets c.args.store.now.nets c.spread.new.nets c.args.marks.now c.spread.new.marks c.as_slice-2.ensures refl c.spread.ensures.told
+
+pub returns-clause-listed : goal.returns-clause-listed
+returns-clause-listed c =
+    listed_as c.args.plan.now.readers (read_row c.args.plan.now.sources c.args.m c.args.n) c.roots_of_read-places.result.now c.args.marks.now c.spread.new.marks c.roots_of_read-places.ensures c.spread.ensures.listed

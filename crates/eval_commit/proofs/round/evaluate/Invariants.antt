@@ -15,5 +15,6 @@ invariant-loop-node g l = record {
   reads : l.store.reads ≡ l.fn.store.reads;
   rooms_same : widths l.rooms ≡ widths l.fn.rooms;
   blank : IsBlank l.plan.roots l.store.nets;
+  marked : l.marks.width ≡ l.fn.marks.width;
   right : (state : State) (digits : Digits) → Holds l.circuit l.rows l.fn.store state → IsValuation l.circuit state (numbers l.inputs) digits → AreRight l.circuit l.plan.nodes l.plan.roots l.node-index digits l.store.nets;
 }

@@ -5,6 +5,7 @@ use Rattle.signal_words.specs.Values.{digits_in}
 use Rattle.cell_changes.proofs.Same.{output_stays}
 use Rattle.eval_plan.specs.Sources.{cell_row}
 use Rattle.eval_commit.specs.Computed.{cell_changes, cell_number}
+use Rattle.eval_commit.proofs.Telling.{nothing_listed, nothing_told}
 use Rattle.eval_commit.proofs.Updating.{stays_spread}
 use Rattle.eval_commit.proofs.Belonging.{fetched}
 use Rattle.eval_commit.proofs.update.update_cell.Goals as goal
@@ -34,3 +35,9 @@ returns-else-has_changed-clause-steps g c =
     let at = fetched c.args.circuit.now.cells c.as_slice.result.now c.args.n c.index-as_slice-n.result c.as_slice.ensures c.requires.there c.index-as_slice-n.is in
     let none : cell_changes before now (slice_get c.args.circuit.now.cells c.args.n) ≡ 0 = ap (cell_changes before now) at ∙ ap digit_of (sym c.has_changed.ensures ∙ c.if-has_changed.false) in
     omega (arith, none)
+
+pub returns-else-has_changed-clause-told : goal.returns-else-has_changed-clause-told
+returns-else-has_changed-clause-told g c = nothing_told c.args.plan.now.roots c.args.plan.now.readers c.args.store.now.nets c.args.marks.now
+
+pub returns-else-has_changed-clause-listed : goal.returns-else-has_changed-clause-listed
+returns-else-has_changed-clause-listed g c = nothing_listed c.args.plan.now.readers (cell_row c.args.plan.now.sources c.args.n) c.args.marks.now

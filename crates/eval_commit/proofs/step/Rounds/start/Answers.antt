@@ -4,7 +4,7 @@ use Rattle.eval_commit.proofs.Standing.{start_is}
 use Rattle.eval_commit.proofs.step.Rounds.start.Goals as goal
 
 pub first_nets-requires-clause-rounds : goal.first_nets-requires-clause-rounds
-first_nets-requires-clause-rounds c = c.in_ok-rounds.ensures.rounds c.args.plan.now
+first_nets-requires-clause-rounds c = c.in_ok-rounds.ensures.rounds
 
 pub returns-clause-standing : goal.returns-clause-standing
 returns-clause-standing c =
