@@ -1,14 +1,14 @@
 -- A machine goes on by a sample of a run.
-use Rattle.std.proofs.Common.{◌≡◌, ℕ, ◌+◌, ◌<◌, List, ◌++◌, length, take, drop, map, refl, sym, ap, ◌∙◌, arith, add-one, true, false, ◌&&◌, Option, Some, None}
+use Rattle.std.proofs.Common.{◌≡◌, ℕ, ◌+◌, ◌<◌, List, ◌++◌, length, take, drop, refl, sym, ap, ◌∙◌, arith, add-one, true, false, ◌&&◌, Option, Some, None}
 use Rattle.std.specs.Prelude.{is_some, nat_lt, nat_eq}
 use Rattle.std.proofs.lemmas.Bool.{cond-true, cond-false, false≢true}
 use Rattle.std.proofs.lemmas.Bool.Decides.{nat_tests}
 use Rattle.std.proofs.lemmas.List.{take_at}
 use Rattle.circuit.specs.Rounds.{Run, Standing, standing_after, standing_at, start}
-use Rattle.circuit.specs.Shown.{fires_at}
 use Rattle.circuit.specs.declared.netlist.Circuit.{Circuit}
 use Rattle.eval_commit.specs.Machine.{MachineState, after_sample}
 use Rattle.stimulus_blocks.specs.Courses.{Course, row_of, run_of}
+use Rattle.run_core.specs.Cursor.{left_by}
 use Rattle.run_core.specs.Samples.{has_next, next_of, sample_of}
 use Rattle.run_core.specs.Words.{StandsAt}
 use Rattle.run_core.specs.declared.next.Next.TheVariants as next
@@ -30,11 +30,7 @@ unfolding standing_after
 started c s = refl
 
 module _ (c : Circuit) (s : Course) (k : ℕ) where
-  -- what sample k leaves
-  abbrev pub left : MachineState
-  left = record { circuit = c; standing = standing_at (run_of c s) k; fired = map (fires_at (run_of c s) k) c.diags }
-
-  pub goes_on : (m now : MachineState) (inputs : List ℕ) → m.circuit ≡ c → m.standing ≡ standing_after (run_of c s) k → inputs ≡ (row_of s k).inputs → now ≡ after_sample m inputs → now ≡ left
+  pub goes_on : (m now : MachineState) (inputs : List ℕ) → m.circuit ≡ c → m.standing ≡ standing_after (run_of c s) k → inputs ≡ (row_of s k).inputs → now ≡ after_sample m inputs → now ≡ left_by (run_of c s) k
   unfolding standing_after
   goes_on m now inputs same before at is =
       is
@@ -42,7 +38,7 @@ module _ (c : Circuit) (s : Course) (k : ℕ) where
       ∙ ap (λ (o : Option Standing). after_sample (record { circuit = c; standing = o; fired = m.fired }) inputs) before
       ∙ ap (λ (xs : List ℕ). after_sample (record { circuit = c; standing = standing_after (run_of c s) k; fired = m.fired }) xs) at
 
-  pub stands_at : (now : MachineState) → now ≡ left → is_some now.standing ≡ true → (t : Standing) × StandsAt (run_of c s) k now t
+  pub stands_at : (now : MachineState) → now ≡ left_by (run_of c s) k → is_some now.standing ≡ true → (t : Standing) × StandsAt (run_of c s) k now t
   stands_at now is some =
       let t = some_of now.standing some in (
         t.0,
@@ -54,16 +50,16 @@ module _ (c : Circuit) (s : Course) (k : ℕ) where
         },
       )
 
-  pub settles : (now : MachineState) → now ≡ left → is_some now.standing ≡ true → is_some (standing_at (run_of c s) k) ≡ true
+  pub settles : (now : MachineState) → now ≡ left_by (run_of c s) k → is_some now.standing ≡ true → is_some (standing_at (run_of c s) k) ≡ true
   settles now is some = ap is_some (sym (ap (λ (m : MachineState). m.standing) is)) ∙ some
 
-  pub stands_next : (now : MachineState) → now ≡ left → now.standing ≡ standing_after (run_of c s) (k + 1)
+  pub stands_next : (now : MachineState) → now ≡ left_by (run_of c s) k → now.standing ≡ standing_after (run_of c s) (k + 1)
   stands_next now is = ap (λ (m : MachineState). m.standing) is ∙ ap (standing_after (run_of c s)) (sym (add-one k))
 
-  pub settles_next : (now : MachineState) → now ≡ left → is_some now.standing ≡ true → is_some (standing_after (run_of c s) (k + 1)) ≡ true
+  pub settles_next : (now : MachineState) → now ≡ left_by (run_of c s) k → is_some now.standing ≡ true → is_some (standing_after (run_of c s) (k + 1)) ≡ true
   settles_next now is some = ap is_some (sym (stands_next now is)) ∙ some
 
-  pub does_not : (now : MachineState) → now ≡ left → now.standing ≡ None → standing_at (run_of c s) k ≡ None
+  pub does_not : (now : MachineState) → now ≡ left_by (run_of c s) k → now.standing ≡ None → standing_at (run_of c s) k ≡ None
   does_not now is none = sym (ap (λ (m : MachineState). m.standing) is) ∙ none
 
 -- ---- what comes next

@@ -1,3 +1,4 @@
 pub mod Words
+pub mod Cursor
 pub mod Progress
 pub mod Samples

@@ -1,26 +1,15 @@
 -- How far the samples of a run were given.
-use Rattle.std.specs.Prelude.{◌≡◌, ◌≤◌, ◌<◌, length, map, true, false, None, is_some}
+use Rattle.std.specs.Prelude.{◌≡◌, length, map}
 use Rattle.sim_base.specs.Shape.{words_of_widths}
 use Rattle.sim_base.specs.Values.{widths}
-use Rattle.circuit.specs.Rounds.{standing_after, standing_at}
 use Rattle.circuit.specs.Slots.{slot_widths}
-use Rattle.circuit.specs.Valid.{is_valid}
 use Rattle.circuit.specs.declared.netlist.Circuit.{Circuit}
-use Rattle.eval_commit.specs.Evaluation.{input_width}
-use Rattle.stimulus_blocks.specs.Courses.{Course, input_widths, run_of, sample_count}
-use Rattle.stimulus_blocks.specs.Standings.{IsPlace}
+use Rattle.stimulus_blocks.specs.Courses.{Course}
+use Rattle.run_core.specs.Cursor.{IsCursor}
 use Rattle.run_core.specs.declared.progress.Progress.{Progress}
 
--- so many samples were given, and the circuit stands as these leave it, or the one behind them does not settle
+-- the samples of a cursor were given, with room for the words of all slots
 pub record IsProgress (c : Circuit) (s : Course) (p : Progress) : Type 0 where
-  pub valid : is_valid c ≡ true
-  pub fits : input_widths s ≡ map (input_width c) c.inputs
-  pub circuit : p.machine.circuit ≡ c
-  pub place : IsPlace s p.place
-  pub inputs : widths p.inputs.items ≡ input_widths s
+  pub cursor : IsCursor c s p.cursor
   pub rooms : widths p.rooms.items ≡ map (λ m. m.width) c.mems
   pub words : length p.words.items ≡ words_of_widths (slot_widths c)
-  pub within : p.given ≤ sample_count s
-  pub settled : is_some (standing_after (run_of c s) p.given) ≡ true
-  pub stands : p.stuck ≡ false → p.machine.standing ≡ standing_after (run_of c s) p.given
-  pub ends : p.stuck ≡ true → (p.given < sample_count s) × (standing_at (run_of c s) p.given ≡ None)

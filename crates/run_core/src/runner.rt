@@ -31,7 +31,7 @@ impl Model for Runner {
 
     ghost Value = { Following };
 
-    ghost view = { λ r. record { circuit = arc_value r.run.circuit; course = arc_value r.run.stimulus; given = r.progress.given } };
+    ghost view = { λ r. record { circuit = arc_value r.run.circuit; course = arc_value r.run.stimulus; given = r.progress.cursor.given } };
 
     ghost invariant = { λ r. IsProgress (arc_value r.run.circuit) (arc_value r.run.stimulus) r.progress };
 }
@@ -55,7 +55,7 @@ impl Runner {
         ensures within { result ≤ (run_of self.now).count }
         ensures settled { is_some (standing_after (run_of self.now) result) ≡ true }
     {
-        self.progress.given
+        self.progress.cursor.given
     }
 
     /// The next sample: its number is how many were given, its time that of its row, and its words those of what
@@ -65,11 +65,11 @@ impl Runner {
         ensures next { IfOk result (λ next. next ≡ next_of (run_of self.old) self.old.given) }
         ensures runner { self.new ≡ (if is_ok result then after_next self.old else self.old) }
     {
-        let number = self.progress.given;
+        let number = self.progress.cursor.given;
         if number == self.run.stimulus.count() {
             return Ok(Next::Over);
         }
-        if self.progress.stuck {
+        if self.progress.cursor.stuck {
             return Ok(Next::Unsettled);
         }
         let mut words = Vec::from_slice(alloc, &self.progress.words)?;
