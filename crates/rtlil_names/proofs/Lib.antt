@@ -1,0 +1,7 @@
+mod Named
+mod Tokens
+mod Sigs
+mod Statements
+mod Processes
+pub mod Modules
+pub mod Texts
