@@ -1,6 +1,7 @@
-mod Spaces
-mod Adding
-mod Owned
+pub mod Spaces
+pub mod Adding
+pub mod Owning
+pub mod Owned
 mod Leaves
-mod Stepping
+pub mod Stepping
 pub mod Walked

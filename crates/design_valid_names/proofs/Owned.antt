@@ -1,11 +1,9 @@
 -- The items of an instance that is shown, and names that are taken in it.
-use Rattle.std.proofs.Common.{◌≡◌, ℕ, not, cond, List, [], ◌∷◌, ◌++◌, drop, length, append-nil, Bool, true, false, Option, Some, None, Ok, refl, sym, ap, ◌∙◌, subst, ◌⊎◌, inl, inr, bytes_eq}
-use Rattle.std.specs.Prelude.{slice_get}
+use Rattle.std.proofs.Common.{◌≡◌, ℕ, not, cond, List, [], ◌∷◌, ◌++◌, drop, length, append-nil, Bool, true, false, Option, Some, None, Ok, refl, sym, ap, ◌∙◌, ◌⊎◌, inl, inr, bytes_eq}
 use Rattle.std.specs.Map.{lookup}
 use Rattle.std.specs.Option.{is_some}
 use Rattle.std.proofs.lemmas.Bool.Decides.{Decides-eqb}
 use Rattle.std.proofs.lemmas.Slice.Eq.{bytes_eq-Decides}
-use Rattle.circuit.specs.Built.{AreNamesApart}
 use Rattle.circuit.specs.declared.item.Item.{Item}
 use Rattle.rtlil_signals.specs.Signals.{Scope, net_named}
 use Rattle.rtlil_signals.specs.declared.scope.NamedNet.{NamedNet}
@@ -18,67 +16,30 @@ use Rattle.design_wires.specs.Wires.{is_public, named, named_net, node_item, wir
 use Rattle.design_names.specs.Names.{Names, has, with_name}
 use Rattle.design_valid.proofs.Keeping.{holds_at, run_given, run_guarded}
 use Rattle.design_valid_names.specs.Spaceless.{has_no_space, is_spaceless}
-use Rattle.design_valid_names.proofs.Adding.{apart_more, old_or_last}
-use Rattle.design_valid_names.proofs.Spaces.{Begins, Mine, mine_begins, mine_more, new_leaf}
+use Rattle.design_valid_names.proofs.Owning.{AreOthers, Left, Owns, owns_leaf, owns_more}
 
--- an item stood in lists
-abbrev pub StoodIn : Made → Item → Type 0
-StoodIn start i = (n : ℕ) × (slice_get start.items n ≡ Some i)
+abbrev pub item_name : Item → List ℕ
+item_name i = i.name
 
 -- no item begins with a text
 abbrev pub Fresh : List ℕ → Made → Type 0
-Fresh front m = (n : ℕ) (i : Item) → slice_get m.items n ≡ Some i → Begins front i.name → ⊥
+Fresh front m = AreOthers item_name front m.items
 
--- names that differ, of items that stood before, or of the instance's own
-pub record Own (front : List ℕ) (start : Made) (Leaf Branch : List ℕ → Type 0) (m : Made) : Type 0 where
-  pub apart : AreNamesApart m.items
-  pub each : (n : ℕ) (i : Item) → slice_get m.items n ≡ Some i → StoodIn start i ⊎ Mine front Leaf Branch i.name
+-- items of an instance, and what is left of this when it is left
+abbrev pub Own : List ℕ → Made → (List ℕ → Type 0) → (List ℕ → Type 0) → Made → Type 0
+Own front start Leaf Branch m = Owns item_name front start.items Leaf Branch m.items
 
--- what is left of this when the instance is left
-pub record Ends (front : List ℕ) (start m : Made) : Type 0 where
-  pub apart : AreNamesApart m.items
-  pub each : (n : ℕ) (i : Item) → slice_get m.items n ≡ Some i → StoodIn start i ⊎ Begins front i.name
+abbrev pub Ends : List ℕ → Made → Made → Type 0
+Ends front start m = Left item_name front start.items m.items
 
-module _ (front : List ℕ) (start : Made) where
-  pub own_begins : (Leaf Branch : List ℕ → Type 0) → AreNamesApart start.items → Own front start Leaf Branch start
-  own_begins Leaf Branch apart = record { apart = apart; each = λ n i e. inl (n, e) }
+-- the same items, of which more is known to be taken
+pub own_more : (front : List ℕ) (start : Made) (Leaf Branch More Wider : List ℕ → Type 0) → ((u : List ℕ) → Leaf u → More u) → ((c : List ℕ) → Branch c → Wider c) → (m n : Made) → n.items ≡ m.items → Own front start Leaf Branch m → Own front start More Wider n
+own_more front start Leaf Branch More Wider f g m n same h = owns_more item_name front start.items Leaf Branch More Wider f g m.items n.items same h
 
-  pub own_ends : (Leaf Branch : List ℕ → Type 0) (m : Made) → Own front start Leaf Branch m → Ends front start m
-  own_ends Leaf Branch m h = record { apart = h.apart; each = λ n i e. by i (h.each n i e) }
-    where
-      by : (i : Item) → StoodIn start i ⊎ Mine front Leaf Branch i.name → StoodIn start i ⊎ Begins front i.name
-      by i (inl s) = inl s
-      by i (inr o) = inr (mine_begins front Leaf Branch i.name o)
-
-  pub own_more : (Leaf Branch More Wider : List ℕ → Type 0) → ((u : List ℕ) → Leaf u → More u) → ((c : List ℕ) → Branch c → Wider c) → (m n : Made) → n.items ≡ m.items → Own front start Leaf Branch m → Own front start More Wider n
-  own_more Leaf Branch More Wider f g m n same h = record {
-    apart = subst AreNamesApart (sym same) h.apart;
-    each = λ k i e. by i (h.each k i (ap (λ (is : List Item). slice_get is k) (sym same) ∙ e));
-  }
-    where
-      by : (i : Item) → StoodIn start i ⊎ Mine front Leaf Branch i.name → StoodIn start i ⊎ Mine front More Wider i.name
-      by i (inl s) = inl s
-      by i (inr o) = inr (mine_more front Leaf Branch More Wider f g i.name o)
-
-  -- one more wire or memory, whose name is not taken
-  pub own_leaf : (Leaf Branch More : List ℕ → Type 0) → Fresh front start → (u : List ℕ) → has_no_space u ≡ true → (Leaf u → ⊥) → ((v : List ℕ) → Leaf v → More v) → More u → (m n : Made) (new : Item) → n.items ≡ m.items ++ new ∷ [] → new.name ≡ front ++ u
-      → Own front start Leaf Branch m → Own front start More Branch n
-  own_leaf Leaf Branch More fresh u text free f taken m n new is name h = record {
-    apart = subst AreNamesApart (sym is) (apart_more m.items new h.apart (λ k x e same. other x (h.each k x e) (same ∙ name)));
-    each = λ k x e. sorted x (old_or_last m.items new k x (ap (λ (xs : List Item). slice_get xs k) (sym is) ∙ e)) (λ o. h.each k x o);
-  }
-    where
-      other : (x : Item) → StoodIn start x ⊎ Mine front Leaf Branch x.name → x.name ≡ front ++ u → ⊥
-      other x (inl s) same = fresh s.0 x s.1 (u, same)
-      other x (inr o) same = new_leaf front Leaf Branch u x.name text free o same
-
-      wider : (x : Item) → StoodIn start x ⊎ Mine front Leaf Branch x.name → StoodIn start x ⊎ Mine front More Branch x.name
-      wider x (inl s) = inl s
-      wider x (inr o) = inr (mine_more front Leaf Branch More Branch f (λ c b. b) x.name o)
-
-      sorted : (x : Item) {k : ℕ} → (slice_get m.items k ≡ Some x) ⊎ ((k ≡ length m.items) × (x ≡ new)) → (slice_get m.items k ≡ Some x → StoodIn start x ⊎ Mine front Leaf Branch x.name) → StoodIn start x ⊎ Mine front More Branch x.name
-      sorted x (inl o) old = wider x (old o)
-      sorted x (inr l) old = inr (inl (u, text, taken, ap (λ (z : Item). z.name) l.1 ∙ name))
+-- one more wire or memory, whose name is not taken
+pub own_leaf : (front : List ℕ) (start : Made) (Leaf Branch More : List ℕ → Type 0) → Fresh front start → (u : List ℕ) → has_no_space u ≡ true → (Leaf u → ⊥) → ((v : List ℕ) → Leaf v → More v) → More u → (m n : Made) (new : Item) → n.items ≡ m.items ++ new ∷ [] → new.name ≡ front ++ u
+    → Own front start Leaf Branch m → Own front start More Branch n
+own_leaf front start Leaf Branch More fresh u text free f taken m n new is name h = owns_leaf item_name front start.items Leaf Branch More Branch f (λ c b. b) fresh u text free taken m.items n.items new is name h
 
 -- ---- names that are taken
 
@@ -124,6 +85,17 @@ has_new names name = by (has names name) refl
 pub public_is : (name : List ℕ) → is_public name ≡ true → name ≡ 92 ∷ drop 1 name
 public_is [] p = cc p
 public_is (c ∷ name) p = ap (λ d. d ∷ name) ((Decides-eqb c 92).0 p)
+
+pub is_none : (b : Bool) → b ≡ false → b ≡ true → ⊥
+is_none true h e = cc h
+is_none false h e = cc e
+
+-- the name of a cell that is none of the earlier ones, and then is one
+pub new_placed : (placed : Names) (name : List ℕ) → is_public name ≡ true → has placed name ≡ false → Placed placed (drop 1 name) → ⊥
+new_placed placed name p free b = is_none (has placed name) free (ap (has placed) (public_is name p) ∙ b)
+
+pub now_placed : (placed : Names) (name : List ℕ) → is_public name ≡ true → Placed (with_name placed name) (drop 1 name)
+now_placed placed name p = ap (has (with_name placed name)) (sym (public_is name p)) ∙ has_new placed name
 
 none_is : (o : Option NamedNet) → not (is_some o) ≡ true → is_some o ≡ true → ⊥
 none_is None h e = cc e

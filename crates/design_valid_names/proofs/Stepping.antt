@@ -1,5 +1,5 @@
 -- The statements of an instance that is shown, and of one that is not.
-use Rattle.std.proofs.Common.{◌≡◌, ℕ, ◌||◌, not, cond, List, [], ◌∷◌, ◌++◌, drop, length, append-nil, append_assoc, Bool, true, false, Option, Some, None, Ok, refl, sym, ap, ◌∙◌, subst, ◌⊎◌, inl, inr, bytes_eq, codes}
+use Rattle.std.proofs.Common.{◌≡◌, ℕ, ◌||◌, not, cond, List, [], ◌∷◌, ◌++◌, drop, length, append-nil, Bool, true, false, Option, Some, None, Ok, refl, sym, ap, ◌∙◌, subst, inl, inr, bytes_eq, codes}
 use Rattle.std.specs.Option.{is_some}
 use Rattle.circuit.specs.Built.{AreNamesApart}
 use Rattle.circuit.specs.declared.item.Item.{Item}
@@ -26,8 +26,8 @@ use Rattle.design_walk.specs.Walks.{Down, Standing, cell, clash_flags, down_into
 use Rattle.design_valid.proofs.Keeping.{holds_at, keeps_nothing, run_guarded, run_parts}
 use Rattle.design_valid_walk.proofs.Walking.{Each}
 use Rattle.design_valid_names.proofs.Leaves.{SameItems, connect_same, identifier_spaceless, less_spaceless, library_same, memory_adds, silent_same}
-use Rattle.design_valid_names.proofs.Owned.{Ends, Fresh, Own, Placed, Spaceless, StoodIn, Taken, has_more, has_new, own_ends, own_leaf, own_more, public_is}
-use Rattle.design_valid_names.proofs.Spaces.{Begins, Mine, begins_within, mine_more, new_branch}
+use Rattle.design_valid_names.proofs.Owned.{Ends, Fresh, Own, Placed, Spaceless, Taken, has_more, has_new, is_none, item_name, new_placed, now_placed, own_leaf, own_more, public_is}
+use Rattle.design_valid_names.proofs.Owning.{owns_branch, owns_to_left}
 use Rattle.design_valid_names.specs.Spaceless.{has_no_space}
 
 -- what an instance leaves: items of its own, each with another name, or none where it is not shown
@@ -38,17 +38,13 @@ Outcome (Some s) before behind = Fresh s.prefix before → AreNamesApart before.
 abbrev pub Returns : List Module → Down → Type 0
 Returns ms down = (around : Standing) (c : Cell) (m : Module) (before behind : Made) → module_named ms c.kind ≡ Some m → run (down around c m) before ≡ Ok behind → Outcome (shown_within around.place.shown c.name (length before.scopes)) before behind
 
-both_false : (a b : Bool) → (a || b) ≡ false → (a ≡ false) × (b ≡ false)
+pub both_false : (a b : Bool) → (a || b) ≡ false → (a ≡ false) × (b ≡ false)
 both_false true b h = cc h
 both_false false b h = (refl, h)
 
-off : (b : Bool) → not b ≡ true → b ≡ false
+pub off : (b : Bool) → not b ≡ true → b ≡ false
 off true h = cc h
 off false h = refl
-
-is_none : (b : Bool) → b ≡ false → b ≡ true → ⊥
-is_none true h e = cc h
-is_none false h e = cc e
 
 module _ (ms : List Module) (down : Down) (returns : Returns ms down) (here : Standing) where
   -- ---- an instance that is shown
@@ -90,28 +86,11 @@ module _ (ms : List Module) (down : Down) (returns : Returns ms down) (here : St
     into_owns : (placed taken : Names) (c : Cell) (o : Option (List ℕ)) (m n : Made) → has_no_space (drop 1 c.name) ≡ true → has placed c.name ≡ false → Outcome (shown_within (Some place) c.name (length m.scopes)) m n → Owns placed taken m → Owns (with_name placed c.name) (with_item taken o) n
     into_owns placed taken c o m n text free out h = it (is_public c.name) refl out
       where
-        u : List ℕ
-        u = drop 1 c.name
-
-        new : is_public c.name ≡ true → Placed placed (drop 1 c.name) → ⊥
-        new p b = is_none (has placed c.name) free (ap (has placed) (public_is c.name p) ∙ b)
-
-        unbegun : is_public c.name ≡ true → (i : Item) → StoodIn start i ⊎ Mine place.prefix (Taken here.scope taken) (Placed placed) i.name → Begins ((place.prefix ++ drop 1 c.name) ++ 32 ∷ []) i.name → ⊥
-        unbegun p i (inl s) b = fresh s.0 i s.1 (begins_within place.prefix (drop 1 c.name) i.name b)
-        unbegun p i (inr mine) b = new_branch place.prefix (Taken here.scope taken) (Placed placed) (drop 1 c.name) i.name text (new p) mine b
-
-        old : (i : Item) → StoodIn start i ⊎ Mine place.prefix (Taken here.scope taken) (Placed placed) i.name → StoodIn start i ⊎ Mine place.prefix (Taken here.scope (with_item taken o)) (Placed (with_name placed c.name)) i.name
-        old i (inl s) = inl s
-        old i (inr mine) = inr (mine_more place.prefix (Taken here.scope taken) (Placed placed) (Taken here.scope (with_item taken o)) (Placed (with_name placed c.name)) (taken_more taken o) (λ d b. has_more placed c.name (92 ∷ d) b) i.name mine)
-
-        sorted : is_public c.name ≡ true → (i : Item) → StoodIn m i ⊎ Begins ((place.prefix ++ drop 1 c.name) ++ 32 ∷ []) i.name → StoodIn start i ⊎ Mine place.prefix (Taken here.scope (with_item taken o)) (Placed (with_name placed c.name)) i.name
-        sorted p i (inl s) = old i (h.each s.0 i s.1)
-        sorted p i (inr b) =
-            inr (inr (drop 1 c.name, text, ap (has (with_name placed c.name)) (sym (public_is c.name p)) ∙ has_new placed c.name, b.0, b.1 ∙ append_assoc (place.prefix ++ drop 1 c.name) (32 ∷ []) b.0 ∙ append_assoc place.prefix (drop 1 c.name) (32 ∷ b.0)))
-
         it : (b : Bool) → is_public c.name ≡ b → Outcome (cond b (Some (record { prefix = shown_name place c.name ++ 32 ∷ []; scope = length m.scopes })) None) m n → Owns (with_name placed c.name) (with_item taken o) n
         it false p same = same_owns placed taken c.name o m n same h
-        it true p ends = let left = ends (λ k i e b. unbegun p i (h.each k i e) b) h.apart in record { apart = left.apart; each = λ k i e. sorted p i (left.each k i e) }
+        it true p ends =
+            owns_branch item_name place.prefix start.items (Taken here.scope taken) (Placed placed) (Taken here.scope (with_item taken o)) (Placed (with_name placed c.name)) (taken_more taken o) (λ d b. has_more placed c.name (92 ∷ d) b) fresh (drop 1 c.name) text
+            (new_placed placed c.name p free) (now_placed placed c.name p) m.items n.items ends h
 
     instance_owns : (placed taken : Names) (c : Cell) (o : Option (List ℕ)) (m n : Made) → has_no_space (drop 1 c.name) ≡ true → has placed c.name ≡ false → run (instance down ms here c) m ≡ Ok n → Owns placed taken m → Owns (with_name placed c.name) (with_item taken o) n
     unfolding instance
@@ -154,7 +133,7 @@ module _ (ms : List Module) (down : Down) (returns : Returns ms down) (here : St
 
     pub steps_own : (placed taken : Names) (ss : List Statement) (m n : Made) → Each Spaceless ss → run (steps down ms here (clash_flags (cells_clash placed ss) (items_clash here.scope taken (items_of ss))) ss) m ≡ Ok n → Owns placed taken m → Ends place.prefix start n
     unfolding steps clash_flags cells_clash items_clash step
-    steps_own placed taken [] m n text e h = own_ends place.prefix start (Taken here.scope taken) (Placed placed) n (same_still placed taken m n (keeps_nothing (SameItems m) m n e refl) h)
+    steps_own placed taken [] m n text e h = owns_to_left item_name place.prefix start.items (Taken here.scope taken) (Placed placed) n.items (same_still placed taken m n (keeps_nothing (SameItems m) m n e refl) h)
     steps_own placed taken (statement.Cell c ∷ ss) m n text e h =
         let flag : Bool = (has placed c.name || repeats c) || item_clashes here.scope taken (cell_item c) in
         let parts = run_parts (cell down ms here flag c) (steps down ms here (clash_flags (cells_clash (with_name placed c.name) ss) (items_clash here.scope (with_item taken (cell_item c)) (items_of ss))) ss) m n e in

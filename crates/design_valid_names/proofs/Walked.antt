@@ -29,21 +29,22 @@ use Rattle.design_valid.proofs.Keeping.{keeps_nothing, run_given, run_parts}
 use Rattle.design_valid_walk.proofs.Walking.{Each}
 use Rattle.design_valid_names.specs.Spaceless.{is_spaceless, is_spaceless_module}
 use Rattle.design_valid_names.proofs.Leaves.{SameItems, wires_hidden, wires_owned}
-use Rattle.design_valid_names.proofs.Owned.{Fresh, Own, Placed, Spaceless, Taken, own_begins, own_more}
+use Rattle.design_valid_names.proofs.Owned.{Fresh, Own, Placed, Taken, item_name, own_more}
+use Rattle.design_valid_names.proofs.Owning.{owns_at_first}
 use Rattle.design_valid_names.proofs.Stepping.{Outcome, Returns, steps_hidden, steps_own}
 
-each_spaceless : (ss : List Statement) → list_all is_spaceless ss ≡ true → Each Spaceless ss
-each_spaceless [] h = tt
-each_spaceless (s ∷ ss) h = let both = and_parts (is_spaceless s) (list_all is_spaceless ss) h in (both.0, each_spaceless ss both.1)
+pub each_passes : (p : Statement → Bool) (ss : List Statement) → list_all p ss ≡ true → Each (λ s. p s ≡ true) ss
+each_passes p [] h = tt
+each_passes p (s ∷ ss) h = let both = and_parts (p s) (list_all p ss) h in (both.0, each_passes p ss both.1)
 
-named_spaceless : (ms : List Module) (name : List ℕ) (m : Module) → list_all is_spaceless_module ms ≡ true → module_named ms name ≡ Some m → is_spaceless_module m ≡ true
-named_spaceless [] name m h e = cc e
-named_spaceless (x ∷ xs) name m h e =
-    let both = and_parts (is_spaceless_module x) (list_all is_spaceless_module xs) h in
-    by (bytes_eq name x.name) both.0 e (named_spaceless xs name m both.1)
+pub named_passes : (p : Module → Bool) (ms : List Module) (name : List ℕ) (m : Module) → list_all p ms ≡ true → module_named ms name ≡ Some m → p m ≡ true
+named_passes p [] name m h e = cc e
+named_passes p (x ∷ xs) name m h e =
+    let both = and_parts (p x) (list_all p xs) h in
+    by (bytes_eq name x.name) both.0 e (named_passes p xs name m both.1)
   where
-    by : (b : Bool) → is_spaceless_module x ≡ true → cond b (Some x) (module_named xs name) ≡ Some m → (module_named xs name ≡ Some m → is_spaceless_module m ≡ true) → is_spaceless_module m ≡ true
-    by true one k rest = let same : x ≡ m = cc k in subst (λ (y : Module). is_spaceless_module y ≡ true) same one
+    by : (b : Bool) → p x ≡ true → cond b (Some x) (module_named xs name) ≡ Some m → (module_named xs name ≡ Some m → p m ≡ true) → p m ≡ true
+    by true one k rest = let same : x ≡ m = cc k in subst (λ (y : Module). p y ≡ true) same one
     by false one k rest = rest k
 
 entered_same : (around : InstancePlace) (md : Module) (c : Cell) (m n : Made) → run (entered around md c) m ≡ Ok n → SameItems m n × (length n.nets ≡ length m.nets)
@@ -81,8 +82,8 @@ module _ (ms : List Module) (texts : list_all is_spaceless_module ms ≡ true) w
           ∙ wires_hidden (inside around c md before).place hidden [] md.statements first second lines ∙ enters
       by (Some s) shown first second third enters count lines ties rest = λ fresh apart.
           let here : Standing = inside around c md before in
-          let text = each_spaceless md.statements (named_spaceless ms c.kind md texts is) in
-          let began = own_more s.prefix before (Taken [] []) (Placed []) (Taken [] []) (Placed []) (λ u t. t) (λ d b. b) before first enters (own_begins s.prefix before (Taken [] []) (Placed []) apart) in
+          let text = each_passes is_spaceless md.statements (named_passes is_spaceless_module ms c.kind md texts is) in
+          let began = own_more s.prefix before (Taken [] []) (Placed []) (Taken [] []) (Placed []) (λ u t. t) (λ d b. b) before first enters (owns_at_first item_name s.prefix before.items (Taken [] []) (Placed []) apart) in
           let wired = wires_owned here.place s shown before fresh (Placed []) [] md.statements first second text lines began in
           let scoped : Own s.prefix before (Taken here.scope []) (Placed []) second = subst (λ (k : ℕ). Own s.prefix before (Taken (scope_of k md.statements) []) (Placed []) second) count wired in
           let tied = own_more s.prefix before (Taken here.scope []) (Placed []) (Taken here.scope []) (Placed []) (λ u t. t) (λ d b. b) second third ties scoped in
@@ -135,7 +136,7 @@ module _ (ms : List Module) (texts : list_all is_spaceless_module ms ≡ true) w
       let here : Standing = top_inside top none_made in
       let s : ShownPlace = record { prefix = []; scope = 0 } in
       let ss : List Statement = top.statements in
-      let text = each_spaceless ss good in
+      let text = each_passes is_spaceless ss good in
       let scoped : Made = record none_made { scopes = scope_of_instance [] top None ∷ [] } in
       let later : Walk = all_steps (walk (length ms) ms) ms here top in
       let lines : Walk = wires here.place [] ss in
@@ -147,7 +148,7 @@ module _ (ms : List Module) (texts : list_all is_spaceless_module ms ≡ true) w
       let count : length first.0.nets ≡ 0 = ap (λ (x : Made). length x.nets) is in
       let fresh : Fresh [] none_made = λ n i e b. cc e in
       let none : AreNamesApart none_made.items = λ i j x y e f same. cc e in
-      let began = own_more [] none_made (Taken [] []) (Placed []) (Taken [] []) (Placed []) (λ u t. t) (λ d b. b) none_made first.0 enters (own_begins [] none_made (Taken [] []) (Placed []) none) in
+      let began = own_more [] none_made (Taken [] []) (Placed []) (Taken [] []) (Placed []) (λ u t. t) (λ d b. b) none_made first.0 enters (owns_at_first item_name [] none_made.items (Taken [] []) (Placed []) none) in
       let wired = wires_owned here.place s refl none_made fresh (Placed []) [] ss first.0 parts.0 text first.2 began in
       let named : Own [] none_made (Taken here.scope []) (Placed []) parts.0 = subst (λ (k : ℕ). Own [] none_made (Taken (scope_of k ss) []) (Placed []) parts.0) count wired in
       let given = own_more [] none_made (Taken here.scope []) (Placed []) (Taken here.scope []) (Placed []) (λ u t. t) (λ d b. b) parts.0 rest.0 (inputs_same here.scope ss parts.0 rest.0 rest.1) named in

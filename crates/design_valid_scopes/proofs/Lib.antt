@@ -1,0 +1,3 @@
+mod Same
+mod Stepping
+pub mod Walked
