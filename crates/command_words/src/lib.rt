@@ -3,6 +3,7 @@
 
 mod command;
 mod fault;
+mod laws;
 mod line;
 mod modes;
 mod texts;
@@ -11,6 +12,7 @@ mod words;
 
 pub use command::{Asked, Command, Mode};
 pub use fault::WordsFault;
-pub use texts::{HELP_TEXT, VERSION_TEXT};
+pub use laws::law_of_commands;
+pub use texts::{help_text, version_text};
 pub use top::top_identifier;
 pub use words::read_words;

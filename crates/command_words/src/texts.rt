@@ -1,7 +1,12 @@
 //! The texts that the program prints about itself.
+ghost use Rattle.std.specs.Prelude.{◌≡◌};
+ghost use Rattle.command_words.specs.Texts.{help_text, version_text};
 
 /// How the program is called.
-pub const HELP_TEXT: &str = "cxxsim simulates a digital design, written in RTLIL, under a stimulus.
+pub fn help_text() -> &'static str
+    ensures { result.now ≡ help_text }
+{
+    "cxxsim simulates a digital design, written in RTLIL, under a stimulus.
 
 usage: cxxsim trace|solo|demo [NUMBER] [OPTIONS]
 
@@ -39,7 +44,12 @@ Statuses
   6  A sample did not settle.
   8  There was not enough memory.
   9  The debugger sent more than 16777216 bytes.
-";
+"
+}
 
 /// The program and its version.
-pub const VERSION_TEXT: &str = "cxxsim 0.1.0\n";
+pub fn version_text() -> &'static str
+    ensures { result.now ≡ version_text }
+{
+    "cxxsim 0.1.0\n"
+}

@@ -1,17 +1,19 @@
 -- Items that are arranged have one order alone.
-use Rattle.std.proofs.Common.{◌≡◌, ℕ, zero, suc, ◌<◌, List, [], ◌∷◌, length, get_or, true, false, Ordering, Less, Equal, Greater, Option, Some, None, refl, sym, ap, subst, ◌∙◌, arith}
+use Rattle.std.proofs.Common.{◌≡◌, ℕ, zero, suc, ◌<◌, List, [], ◌∷◌, length, get_or, true, false, Ordering, Less, Equal, Greater, Option, Some, None, refl, sym, ap, subst, ◌∙◌, arith, inl, inr}
 use Rattle.std.specs.Prelude.{slice_get}
-use Rattle.std.specs.List.Sorted.{IsPermutation}
+use Rattle.std.specs.List.Sorted.{IsPermutation, IsSortedBy}
 use Rattle.std.specs.Cmp.Lexicographic.{slice_cmp}
 use Rattle.std.specs.Ordering.{is_lt, nat_cmp, ordering_reverse}
-use Rattle.std.proofs.lemmas.Bool.{and_parts}
+use Rattle.std.proofs.lemmas.Bool.{and_parts, cases_lt}
 use Rattle.std.proofs.lemmas.Cmp.{nat_list_cmp_total}
 use Rattle.std.proofs.lemmas.List.Sorted.{Contains-permutation, IsPermutation-sym, IsPermutation-trans}
 use Rattle.std.proofs.lemmas.Option.{slice_get-get_or}
+use Rattle.circuit.specs.Built.{AreNamesApart}
 use Rattle.circuit.specs.Valid.{is_before, names_rise, stands_before}
 use Rattle.circuit.specs.declared.item.Item.{Item}
 use Rattle.circuit.specs.declared.netlist.Circuit.{Circuit}
 use Rattle.rtlil_tree.specs.declared.sig.Const.{Const}
+use Rattle.design_items.proofs.Placed.{placed_rise}
 use Rattle.design_items.specs.Arranged.{placed_from}
 use Rattle.design_starts.specs.Starts.{started}
 use Rattle.design_finish.specs.Finished.{IsFinished}
@@ -83,3 +85,25 @@ module _ (before : (items : List Item) → names_rise items ≡ true → (i j : 
       let sorted : a.arranged.sorted ≡ b.arranged.sorted = same_lists a.arranged.sorted b.arranged.sorted f g (in_moved a.arranged.sorted b.arranged.sorted there) (in_moved b.arranged.sorted a.arranged.sorted back) in
       let items : a.items ≡ b.items = a.arranged.placed ∙ ap (placed_from made.mems 0) sorted ∙ sym b.arranged.placed in
       a.whole ∙ ap (λ (is : List Item). started (record made { items = is }) inits) items ∙ sym b.whole
+
+  not_same : (items : List Item) → names_rise items ≡ true → (i j : ℕ) (x y : Item) → i < j → slice_get items i ≡ Some x → slice_get items j ≡ Some y → x.name ≡ y.name → ⊥
+  not_same items up i j x y lt at_x at_y same = not_twice y y (subst (λ (n : List ℕ). is_before n y.name ≡ true) same (before items up i j x y lt at_x at_y)) (subst (λ (n : List ℕ). is_before n y.name ≡ true) same (before items up i j x y lt at_x at_y))
+
+  names_apart : (items : List Item) → names_rise items ≡ true → AreNamesApart items
+  names_apart items up i j x y at_x at_y same =
+      elim (cases_lt i j) [
+        | inl less ↦ absurd (not_same items up i j x y less at_x at_y same)
+        | inr le ↦ elim (cases_lt j i) [
+          | inl more ↦ absurd (not_same items up j i y x more at_y at_x (sym same))
+          | inr ge ↦ omega (arith, le, ge)
+        ]
+      ]
+
+  -- lists that become a valid circuit become no other
+  pub valid_one : ((made items : List Item) → AreNamesApart made → IsPermutation made items → IsSortedBy (λ x y. is_before x.name y.name) items → names_rise items ≡ true)
+      → (made one other : Circuit) (inits : List (Option Const)) → names_rise one.items ≡ true → IsFinished made inits one → IsFinished made inits other → one ≡ other
+  valid_one rise made one other inits up a b =
+      let items : one.items ≡ a.items = ap (λ (c : Circuit). c.items) a.whole in
+      let sorted : names_rise a.arranged.sorted ≡ true = sym (placed_rise made.mems 0 a.arranged.sorted) ∙ ap names_rise (sym a.arranged.placed) ∙ ap names_rise (sym items) ∙ up in
+      let there = IsPermutation-trans a.arranged.sorted made.items b.arranged.sorted (IsPermutation-sym made.items a.arranged.sorted a.arranged.same) b.arranged.same in
+      only_one made one other inits a b sorted (rise a.arranged.sorted b.arranged.sorted (names_apart a.arranged.sorted sorted) there b.arranged.rise)

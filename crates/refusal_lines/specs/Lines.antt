@@ -1,4 +1,4 @@
--- The lines that say why a design is refused.
+-- The lines that say why a design or a stimulus is refused.
 use Rattle.std.specs.Prelude.{ℕ, List, [], ◌∷◌, ◌++◌, Option, Some, None, codes, decimal, flat_map}
 use Rattle.circuit.specs.Fault.{fault_name, fault_number}
 use Rattle.circuit.specs.declared.fault.BitAt.{BitAt}
@@ -6,6 +6,8 @@ use Rattle.circuit.specs.declared.fault.DesignFault.{DesignFault}
 use Rattle.rtlil_lexer.specs.Faults.{text_fault_name, text_fault_number}
 use Rattle.rtlil_lexer.specs.declared.fault.TextFault.{TextFault}
 use Rattle.rtlil_lexer.specs.declared.fault.TextFault.TheVariants as fault
+use Rattle.stimulus_text.specs.Faults.{stim_fault_name, stim_fault_number}
+use Rattle.stimulus_text.specs.declared.fault.StimFaultKind.{StimFaultKind}
 
 -- a number, a name, and what stands behind them
 abbrev pub line : ℕ → List ℕ → List ℕ → List ℕ
@@ -32,3 +34,7 @@ design_line (Some number) f = Some (line number (fault_name f.kind) (place_text 
 -- the line of a design's fault; want of memory has none
 abbrev pub design_fault_line : DesignFault → Option (List ℕ)
 design_fault_line f = design_line (fault_number f.kind) f
+
+-- the line of a stimulus' fault
+abbrev pub stimulus_fault_line : StimFaultKind → ℕ → List ℕ
+stimulus_fault_line kind l = line (stim_fault_number kind) (stim_fault_name kind) (32 ∷ decimal l)
