@@ -13,7 +13,7 @@ use Rattle.design_valid_walk.proofs.Whole.{design_wired}
 use Rattle.design_valid_counts.specs.Counted.{AreCounted}
 use Rattle.design_valid_counts.proofs.Design.{design_counted}
 use Rattle.design_valid_items.specs.Shown.{IsShown}
-use Rattle.design_valid_items.specs.Written.{is_text_module}
+use Rattle.rtlil_names.specs.Names.{is_text_module}
 use Rattle.design_valid_items.proofs.Design.{design_shown, design_top}
 use Rattle.design_valid_inputs.proofs.Design.{design_inputs}
 use Rattle.design_ready.proofs.Words.{cells_few, diags_whole, nets_few, registers_few}

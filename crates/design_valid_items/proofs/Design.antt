@@ -10,7 +10,7 @@ use Rattle.design_valid.specs.Keeps.{Keeps}
 use Rattle.design_valid_walk.proofs.Typed.{by_types}
 use Rattle.design_valid_walk.proofs.Walking.{Rules, top_holds}
 use Rattle.design_valid_items.specs.Shown.{HasTop, IsShown}
-use Rattle.design_valid_items.specs.Written.{is_text_module}
+use Rattle.rtlil_names.specs.Names.{is_text_module}
 use Rattle.design_valid_items.proofs.Growing.{Inside, place_behind}
 use Rattle.design_valid_items.proofs.Instances.{arrival_shown, good_statements, named_text, top_shown}
 use Rattle.design_valid_items.proofs.Leaves.{Good, connect_shown, inputs_shown, library_shown, memory_shown, silent_shown}

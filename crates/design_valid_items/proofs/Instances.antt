@@ -22,7 +22,7 @@ use Rattle.design_valid.proofs.Keeping.{run_given, run_parts}
 use Rattle.design_valid.proofs.Lists.{all_one}
 use Rattle.design_valid_walk.proofs.Walking.{Each}
 use Rattle.design_valid_items.specs.Shown.{HasTop, IsShown}
-use Rattle.design_valid_items.specs.Written.{is_text_module, is_text_statement}
+use Rattle.rtlil_names.specs.Names.{is_text_module, is_text_statement}
 use Rattle.design_valid_items.proofs.Growing.{FitsPlace, Inside, ShowsIn, inside_both, none_shown, shown_both, top_stays}
 use Rattle.design_valid_items.proofs.Leaves.{Good, wires_shown}
 use Rattle.design_valid_items.proofs.Texts.{bare_text, no_text, public_text, source_fits, space_text, text_both}

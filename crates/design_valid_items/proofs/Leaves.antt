@@ -59,7 +59,7 @@ use Rattle.design_valid.proofs.Lists.{all_one, last_stands}
 use Rattle.design_valid_counts.specs.Counted.{net_bits, row_count}
 use Rattle.design_valid_walk.proofs.Walking.{Each}
 use Rattle.design_valid_items.specs.Shown.{AreShown, diag_told}
-use Rattle.design_valid_items.specs.Written.{is_text_statement}
+use Rattle.rtlil_names.specs.Names.{is_text_statement}
 use Rattle.design_valid_items.proofs.Growing.{FitsPlace, Inside, inside_both, none_shown, place_stays}
 use Rattle.design_valid_items.proofs.Texts.{cell_text_fits, public_text, source_fits, text_both}
 

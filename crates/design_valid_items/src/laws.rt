@@ -6,7 +6,7 @@ ghost use Rattle.design_parts.specs.Parts.{Made, none_made, run};
 ghost use Rattle.design_top.specs.Inputs.{inputs};
 ghost use Rattle.design_walk.specs.Walks.{top_walk};
 ghost use Rattle.design_valid_items.specs.Shown.{HasTop, IsShown};
-ghost use Rattle.design_valid_items.specs.Written.{is_text_module};
+ghost use Rattle.rtlil_names.specs.Names.{is_text_module};
 
 /// Where the names that a file writes are UTF-8 and no check of a design fails, each item is in a scope, shows what is
 /// there and has a name and a source that fit, and so have the scopes and the diagnostics; one scope is the top.

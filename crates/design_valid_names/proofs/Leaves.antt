@@ -38,7 +38,7 @@ use Rattle.design_diagnostics.specs.declared.reading.Reading.{Reading}
 use Rattle.design_valid.proofs.Keeping.{keeps_nothing, run_given, run_guarded, run_parts}
 use Rattle.design_valid_walk.proofs.Walking.{Each}
 use Rattle.design_valid_names.proofs.Owned.{Own, Fresh, Spaceless, Taken, own_more, some_more, wire_owned}
-use Rattle.design_valid_names.specs.Spaceless.{has_no_space}
+use Rattle.rtlil_names.specs.Names.{has_no_space}
 
 -- a part adds no items
 abbrev pub SameItems : Made → Made → Type 0

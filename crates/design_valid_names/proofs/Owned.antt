@@ -15,7 +15,7 @@ use Rattle.design_wires.specs.Places.{InstancePlace, ShownPlace}
 use Rattle.design_wires.specs.Wires.{is_public, named, named_net, node_item, wire, wire_checks, wire_items, wire_made}
 use Rattle.design_names.specs.Names.{Names, has, with_name}
 use Rattle.design_valid.proofs.Keeping.{holds_at, run_given, run_guarded}
-use Rattle.design_valid_names.specs.Spaceless.{has_no_space, is_spaceless}
+use Rattle.rtlil_names.specs.Names.{has_no_space, is_spaceless}
 use Rattle.design_valid_names.proofs.Owning.{AreOthers, Left, Owns, owns_leaf, owns_more}
 
 abbrev pub item_name : Item → List ℕ

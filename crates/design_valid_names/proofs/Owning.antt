@@ -1,7 +1,7 @@
 -- Lists of what has a name, while an instance adds to them whose names begin with a path.
 use Rattle.std.proofs.Common.{◌≡◌, ℕ, List, [], ◌∷◌, ◌++◌, append_assoc, length, true, Some, sym, ap, ◌∙◌, subst, ◌⊎◌, inl, inr}
 use Rattle.std.specs.Prelude.{slice_get}
-use Rattle.design_valid_names.specs.Spaceless.{has_no_space}
+use Rattle.rtlil_names.specs.Names.{has_no_space}
 use Rattle.design_valid_names.proofs.Adding.{AreApart, apart_more, old_or_last}
 use Rattle.design_valid_names.proofs.Spaces.{Begins, Mine, begins_within, mine_begins, mine_more, new_branch, new_leaf}
 

@@ -1,7 +1,7 @@
 -- Identifiers without a space, behind what begins a path.
 use Rattle.std.proofs.Common.{◌≡◌, ℕ, ◌==◌, not, List, [], ◌∷◌, ◌++◌, Bool, true, false, refl, sym, ap, ◌∙◌, subst, append_assoc, ◌⊎◌, inl, inr}
 use Rattle.std.proofs.lemmas.Bool.{and_parts}
-use Rattle.design_valid_names.specs.Spaceless.{has_no_space}
+use Rattle.rtlil_names.specs.Names.{has_no_space}
 
 abbrev head_or : ℕ → List ℕ → ℕ
 head_or d [] = d

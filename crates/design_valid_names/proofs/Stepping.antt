@@ -28,7 +28,7 @@ use Rattle.design_valid_walk.proofs.Walking.{Each}
 use Rattle.design_valid_names.proofs.Leaves.{SameItems, connect_same, identifier_spaceless, less_spaceless, library_same, memory_adds, silent_same}
 use Rattle.design_valid_names.proofs.Owned.{Ends, Fresh, Own, Placed, Spaceless, Taken, has_more, has_new, is_none, item_name, new_placed, now_placed, own_leaf, own_more, public_is}
 use Rattle.design_valid_names.proofs.Owning.{owns_branch, owns_to_left}
-use Rattle.design_valid_names.specs.Spaceless.{has_no_space}
+use Rattle.rtlil_names.specs.Names.{has_no_space}
 
 -- what an instance leaves: items of its own, each with another name, or none where it is not shown
 abbrev pub Outcome : Option ShownPlace → Made → Made → Type 0

@@ -27,7 +27,7 @@ use Rattle.design_walk.specs.Modules.{module_named}
 use Rattle.design_walk.specs.Walks.{Down, Standing, all_steps, arrival, flags_of, inside, joins, top_inside, top_walk, top_walk_within, top_wires, walk, walk_in}
 use Rattle.design_valid.proofs.Keeping.{keeps_nothing, run_given, run_parts}
 use Rattle.design_valid_walk.proofs.Walking.{Each}
-use Rattle.design_valid_names.specs.Spaceless.{is_spaceless, is_spaceless_module}
+use Rattle.rtlil_names.specs.Names.{is_spaceless, is_spaceless_module}
 use Rattle.design_valid_names.proofs.Leaves.{SameItems, wires_hidden, wires_owned}
 use Rattle.design_valid_names.proofs.Owned.{Fresh, Own, Placed, Taken, item_name, own_more}
 use Rattle.design_valid_names.proofs.Owning.{owns_at_first}

@@ -6,7 +6,7 @@ ghost use Rattle.rtlil_tree.specs.declared.module.Module.{Module};
 ghost use Rattle.design_parts.specs.Parts.{Made, none_made, run};
 ghost use Rattle.design_top.specs.Inputs.{inputs};
 ghost use Rattle.design_walk.specs.Walks.{top_walk};
-ghost use Rattle.design_valid_names.specs.Spaceless.{is_spaceless_module};
+ghost use Rattle.rtlil_names.specs.Names.{is_spaceless_module};
 
 /// Where the names of wires and cells have no space and no check of a design fails, no two of its items have one name.
 pub fn law_of_names()

@@ -18,12 +18,11 @@ use Rattle.design_walk.specs.Walks.{Down, Standing, cell, clash_flags, down_into
 use Rattle.design_wires.specs.Connects.{connect}
 use Rattle.design_valid.proofs.Keeping.{holds_at, run_guarded, run_parts}
 use Rattle.design_valid_walk.proofs.Walking.{Each}
-use Rattle.design_valid_names.specs.Spaceless.{has_no_space}
+use Rattle.rtlil_names.specs.Names.{has_no_space, is_named}
 use Rattle.design_valid_names.proofs.Adding.{AreApart}
 use Rattle.design_valid_names.proofs.Owned.{Placed, Spaceless, has_more, new_placed, now_placed}
 use Rattle.design_valid_names.proofs.Owning.{AreOthers, Left, Owns, owns_branch, owns_leaf, owns_more, owns_to_left}
 use Rattle.design_valid_names.proofs.Stepping.{both_false, off}
-use Rattle.design_valid_scopes.specs.Named.{is_named}
 use Rattle.design_valid_scopes.proofs.Same.{AddsNone, SameScopes, connect_same, nothing_same, typed_same}
 
 abbrev pub scope_name : Shown → List ℕ

@@ -15,12 +15,11 @@ use Rattle.design_top.specs.Inputs.{inputs}
 use Rattle.design_walk.specs.Instances.{entered, scope_of_instance, scopes_within, shown_within, top_entered}
 use Rattle.design_walk.specs.Walks.{Down, Standing, all_steps, arrival, flags_of, inside, joins, top_inside, top_walk, top_walk_within, top_wires, walk, walk_in}
 use Rattle.design_valid.proofs.Keeping.{run_given, run_parts}
-use Rattle.design_valid_names.specs.Spaceless.{is_spaceless, is_spaceless_module}
+use Rattle.rtlil_names.specs.Names.{is_named, is_named_module, is_spaceless, is_spaceless_module}
 use Rattle.design_valid_names.proofs.Adding.{AreApart}
 use Rattle.design_valid_names.proofs.Owned.{Placed}
 use Rattle.design_valid_names.proofs.Owning.{AreOthers, Owns, owns_at_first, owns_leaf, owns_more}
 use Rattle.design_valid_names.proofs.Walked.{each_passes, named_passes}
-use Rattle.design_valid_scopes.specs.Named.{is_named, is_named_module}
 use Rattle.design_valid_scopes.proofs.Same.{SameScopes, inputs_same, joins_same, nothing_same, wires_same}
 use Rattle.design_valid_scopes.proofs.Stepping.{Entered, Outcome, Returns, scope_name, steps_hidden, steps_hold}
 

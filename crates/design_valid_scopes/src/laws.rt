@@ -7,8 +7,7 @@ ghost use Rattle.rtlil_tree.specs.declared.module.Module.{Module};
 ghost use Rattle.design_parts.specs.Parts.{Made, none_made, run};
 ghost use Rattle.design_top.specs.Inputs.{inputs};
 ghost use Rattle.design_walk.specs.Walks.{top_walk};
-ghost use Rattle.design_valid_names.specs.Spaceless.{is_spaceless_module};
-ghost use Rattle.design_valid_scopes.specs.Named.{is_named_module};
+ghost use Rattle.rtlil_names.specs.Names.{is_named_module, is_spaceless_module};
 
 use circuit::law_of_order;
 

@@ -1,5 +1,6 @@
--- Identifiers whose names are UTF-8 and have no space behind their first byte, and rules that read from such tokens.
+-- Identifiers whose names are UTF-8 and have bytes but no space behind their first one, and rules that read from such tokens.
 use Rattle.std.proofs.Common.{◌≡◌, ℕ, zero, suc, List, [], ◌∷◌, length, drop, Bool, true, false, Ok, Err, if◌then◌else◌}
+use Rattle.std.specs.Prelude.{nat_lt}
 use Rattle.std.specs.Str.{is_utf8}
 use Rattle.rtlil_lexer.specs.declared.token.Token.{Token}
 use Rattle.rtlil_lexer.specs.declared.token.TokenKind.{TokenKind}
@@ -12,6 +13,7 @@ use Rattle.rtlil_names.specs.Names.{has_no_space}
 pub record IsNamed (name : List ℕ) : Type 0 where
   pub text : is_utf8 name ≡ true
   pub spaceless : has_no_space (drop 1 name) ≡ true
+  pub long : nat_lt 1 (length name) ≡ true
 
 abbrev pub IsNamedKind : TokenKind → Type 0
 IsNamedKind (token.Identifier name) = IsNamed name

@@ -1,9 +1,10 @@
--- The identifiers of a text are UTF-8 and have no space behind their first byte.
+-- The identifiers of a text are UTF-8 and have bytes but no space behind their first one.
 use Rattle.std.proofs.Common.{◌≡◌, ℕ, zero, suc, ◌+◌, ◌-◌, ◌<◌, ◌≤◌, ◌==◌, not, ◌&&◌, List, [], ◌∷◌, ◌++◌, length, length-append, length-take, take, get_or, true, false, Option, Some, None, is_some, Result, Ok, Err, refl, sym, ap, subst, ◌∙◌, inl, inr, take-take, arith, IsUtf8, IsCharBoundary}
+use Rattle.std.specs.Prelude.{nat_lt}
 use Rattle.std.specs.List.{list_all, position_or_len}
 use Rattle.std.specs.Str.{is_utf8}
 use Rattle.std.specs.Str.Lossy.{valid_len_up_to, utf8_valid_len}
-use Rattle.std.proofs.lemmas.Bool.{cases_lt, cond_both, and_from, and_parts, eqb-true, ne_eqb, or_from}
+use Rattle.std.proofs.lemmas.Bool.{cases_lt, cond_both, and_from, and_parts, eqb-true, lt-ltb, ne_eqb, or_from}
 use Rattle.std.specs.Char.{is_ascii_digit}
 use Rattle.std.proofs.lemmas.List.{get_or-append-add}
 use Rattle.std.proofs.lemmas.List.Folds.{length-prefix_len}
@@ -116,6 +117,9 @@ spaceless : (name : List ℕ) → list_all is_name_byte name ≡ true → has_no
 spaceless [] each = refl
 spaceless (b ∷ name) each = let parts = and_parts (is_name_byte b) (list_all is_name_byte name) each in and_from (not (b == 32)) (has_no_space name) (name_byte b parts.0) (spaceless name parts.1)
 
+longer : (b : ℕ) (name : List ℕ) → 0 < length name → nat_lt 1 (length (b ∷ name)) ≡ true
+longer b name some = lt-ltb 1 (length (b ∷ name)) (omega (arith, some))
+
 no_identifier : (b : ℕ) (name : List ℕ) → sign_of b ≡ Some (token.Identifier name) → ⊥
 no_identifier b name is = grind arith
 
@@ -128,7 +132,7 @@ piece_named place _ _ _ (reading.white b rest is) text = tt
 piece_named place _ _ _ (reading.comment bytes rest each ends) text = tt
 piece_named place _ _ _ (reading.line_feed rest) text = (tt, tt)
 piece_named place _ _ _ (reading.word letters rest run ends) text = (tt, tt)
-piece_named place _ _ _ (reading.identifier b name rest first run ends) text = (record { text = is_utf8-from_IsUtf8 (b ∷ name) text; spaceless = spaceless name run.each }, tt)
+piece_named place _ _ _ (reading.identifier b name rest first run ends) text = (record { text = is_utf8-from_IsUtf8 (b ∷ name) text; spaceless = spaceless name run.each; long = longer b name run.some }, tt)
 piece_named place _ _ _ (reading.integer digits rest run ends le) text = (tt, tt)
 piece_named place _ _ _ (reading.negative digits rest run ends le) text = (tt, tt)
 piece_named place _ _ _ (reading.constant width sign digits rest is within) text = (tt, tt)

@@ -1,5 +1,5 @@
--- Names in a tree: which are written in UTF-8, and which have no space.
-use Rattle.std.specs.Prelude.{ℕ, ◌==◌, List, Bool, true, drop, not, ◌&&◌}
+-- Names in a tree: which are written in UTF-8, which have no space, and which are more than their first byte.
+use Rattle.std.specs.Prelude.{ℕ, ◌==◌, List, Bool, true, drop, length, not, ◌&&◌, nat_lt}
 use Rattle.std.specs.List.{list_all}
 use Rattle.std.specs.Str.{is_utf8}
 use Rattle.rtlil_tree.specs.declared.module.Module.{Module}
@@ -27,3 +27,15 @@ is_spaceless _ = true
 
 abbrev pub is_spaceless_module : Module → Bool
 is_spaceless_module m = list_all is_spaceless m.statements
+
+-- the name of a cell goes on behind its first byte
+abbrev pub is_named : Statement → Bool
+is_named (statement.Cell c) = nat_lt 1 (length c.name)
+is_named _ = true
+
+abbrev pub is_named_module : Module → Bool
+is_named_module m = list_all is_named m.statements
+
+-- all of these
+abbrev pub is_well_named : Module → Bool
+is_well_named m = is_text_module m && (is_spaceless_module m && is_named_module m)

@@ -5,15 +5,14 @@ ghost use Rattle.rtlil_lexer.specs.declared.token.Token.{Token};
 ghost use Rattle.rtlil_lexer.specs.Tokens.{lexed};
 ghost use Rattle.rtlil_tree.specs.declared.module.File.{File};
 ghost use Rattle.rtlil_tree.specs.Modules.{parsed};
-ghost use Rattle.rtlil_names.specs.Names.{is_text_module, is_spaceless_module};
+ghost use Rattle.rtlil_names.specs.Names.{is_well_named};
 
 use rtlil_lexer::law_of_tokens;
 
-/// Where a text has tokens and these a tree, the names of its modules, wires and cells are UTF-8, and no name of a wire or a
-/// cell has a space behind its first byte.
+/// Where a text has tokens and these a tree, the names of its modules, wires and cells are UTF-8, no name of a wire or a cell has a
+/// space behind its first byte, and that of a cell goes on behind it.
 pub fn law_of_names_read()
-    ensures texts { (text : List ℕ) (tokens : List Token) (file : File) → lexed text ≡ Ok tokens → parsed tokens ≡ Ok file → list_all is_text_module file.modules ≡ true }
-    ensures spaces { (text : List ℕ) (tokens : List Token) (file : File) → lexed text ≡ Ok tokens → parsed tokens ≡ Ok file → list_all is_spaceless_module file.modules ≡ true }
+    ensures { (text : List ℕ) (tokens : List Token) (file : File) → lexed text ≡ Ok tokens → parsed tokens ≡ Ok file → list_all is_well_named file.modules ≡ true }
 {
     law_of_tokens();
 }

@@ -2,10 +2,7 @@ use Rattle.std.proofs.Common.{◌≡◌, ◌&&◌, true}
 use Rattle.std.proofs.lemmas.Bool.{and_parts}
 use Rattle.circuit.proofs.Grown.{all_mono}
 use Rattle.rtlil_tree.specs.declared.module.Module.{Module}
-use Rattle.design_valid_items.specs.Written.{is_text_module}
-use Rattle.design_valid_names.specs.Spaceless.{is_spaceless_module}
-use Rattle.design_valid_scopes.specs.Named.{is_named_module}
-use Rattle.design_ready.specs.Written.{is_well_named}
+use Rattle.rtlil_names.specs.Names.{is_named_module, is_spaceless_module, is_text_module, is_well_named}
 use Rattle.design_ready.proofs.Ready.{design_ready}
 use Rattle.design_ready.proofs.laws.law_of_readiness.Goals as goal
 

@@ -4,7 +4,7 @@ use Rattle.circuit.specs.Valid.{node_count}
 use Rattle.circuit.specs.declared.netlist.Circuit.{Circuit}
 use Rattle.circuit.proofs.Grown.{all_at}
 use Rattle.design_parts.specs.Parts.{circuit_of}
-use Rattle.design_ready.specs.Written.{is_well_named}
+use Rattle.rtlil_names.specs.Names.{is_well_named}
 use Rattle.elaborate_valid.proofs.Tops.{top_walked}
 use Rattle.elaborate_valid.proofs.laws.law_of_elaboration.Goals as goal
 
