@@ -1,11 +1,9 @@
-//! Tests of the crates that take the parts of a design, of `process_check` and of `refusal_lines`, which use their public items
-//! alone.
+//! Tests of `elaborate` and of the crates below it that take the parts of a design, of `process_check` and of `refusal_lines`, which
+//! use their public items alone.
 #![tactic(auto)]
 
 #[cfg(test)]
 mod lines;
-#[cfg(test)]
-mod module;
 #[cfg(test)]
 mod refused;
 #[cfg(test)]

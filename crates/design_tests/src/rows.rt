@@ -1,4 +1,4 @@
-//! Rows that say what becomes of a module.
+//! Rows that say what becomes of a design.
 use crate::told::told;
 use sim_base::NoMemory;
 use std::alloc::Global;
@@ -81,12 +81,12 @@ fn check_between(
     Ok(())
 }
 
-/// In each row the lines of a module stand before the arrow, and what is told of it behind it.
+/// In each row the lines of a module stand before the arrow, and what is told of the design with it as its top behind it.
 pub fn check_modules(rt: &impl Abort, alloc: Global, rows: &str) -> Result<(), Fail> {
     check_between(rt, alloc, FRONT, rows, BEHIND)
 }
 
-/// In each row a whole text stands before the arrow, and what is told of its first module behind it.
+/// In each row a whole text stands before the arrow, and what is told of its design behind it.
 pub fn check_texts(rt: &impl Abort, alloc: Global, rows: &str) -> Result<(), Fail> {
     check_between(rt, alloc, b"", rows, b"")
 }

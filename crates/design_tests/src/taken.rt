@@ -31,11 +31,11 @@ cell $check \g / parameter \FLAVOR "cover" / connect \TRG \a / end => 3 0 0 0 0 
 cell $print \g / parameter \WHAT 5 / connect \EVER \a / end => 3 0 0 0 0 3"#;
 
 const INSTANCES: &str =
-    r#"cell \plain \u / connect \x \a / connect \y \c / end => 6 0 0 0 0 3; 3[0+8] wire 0 0; 2[0+1] wire 4 0
-cell \plain \u / connect \y \c / connect \x { \b [3:0] \a [7:4] } / end => 6 0 0 0 0 3; 2[0+1] wire 4 0; 3[0+4] wire 0 4; 3[4+4] wire 1 0
-cell \plain \u / connect \y \c / end => 6 0 0 0 0 3; 2[0+1] wire 4 0; 3[0+8] 8'0
-cell \plain \u / connect \y 1'0 / connect \x 8'11111111 / end => 6 0 0 0 0 3; 3[0+8] 8'ff
-cell \plain \u / end / cell \plain \v / end => 9 0 0 0 0 3; 3[0+8] 8'0; 6[0+8] 8'0"#;
+    r#"cell \plain \u / connect \x \a / connect \y \c / end => 6 0 0 0 0 6; 3[0+8] wire 0 0; 2[0+1] wire 4 0
+cell \plain \u / connect \y \c / connect \x { \b [3:0] \a [7:4] } / end => 6 0 0 0 0 6; 2[0+1] wire 4 0; 3[0+4] wire 0 4; 3[4+4] wire 1 0
+cell \plain \u / connect \y \c / end => 6 0 0 0 0 6; 2[0+1] wire 4 0; 3[0+8] 8'0
+cell \plain \u / connect \y 1'0 / connect \x 8'11111111 / end => 6 0 0 0 0 6; 3[0+8] 8'ff
+cell \plain \u / end / cell \plain \v / end => 9 0 0 0 0 9; 3[0+8] 8'0; 6[0+8] 8'0"#;
 
 #[test]
 fn wires_and_connections_become_nets_and_drives(rt: HostRuntime) -> Result<(), Fail> {

@@ -1,7 +1,7 @@
-//! What a module gives, and the line of a refusal, as a text.
-use crate::module::take_module;
+//! What a design gives, and the line of a refusal, as a text.
 use circuit::{By, Circuit};
 use design_parts::Refusal;
+use elaborate::elaborate;
 use process_check::check_processes;
 use refusal_lines::{design_fault_line, text_fault_line};
 use rtlil_lexer::{TextFault, lex};
@@ -10,6 +10,8 @@ use sim_base::Bits;
 use std::alloc::Global;
 use std::str::from_utf8;
 use std::test::Fail;
+
+const TOP: &[u8] = br"\m";
 
 /// A value of at most 64 bits as its width and its number.
 fn push_value(out: &mut String, value: &Bits) -> Result<(), Fail> {
@@ -76,14 +78,14 @@ fn refusal_told(alloc: Global, refusal: &Refusal) -> Result<String, Fail> {
     }
 }
 
-fn module_told(alloc: Global, file: &File) -> Result<String, Fail> {
-    match take_module(alloc, file) {
-        Ok(draft) => circuit_told(alloc, &draft.into_circuit()),
+fn design_told(alloc: Global, file: &File) -> Result<String, Fail> {
+    match elaborate(alloc, file, Some(TOP)) {
+        Ok(circuit) => circuit_told(alloc, &circuit),
         Err(refusal) => refusal_told(alloc, &refusal),
     }
 }
 
-/// What the first module of a text gives, or the line of its refusal.
+/// What the module `\m` of a text gives as a design, or the line of its refusal.
 pub fn told(alloc: Global, text: &[u8]) -> Result<String, Fail> {
     if text.len() >= 4_294_967_295 {
         return fault_told(alloc, TextFault::NoMemory);
@@ -97,7 +99,7 @@ pub fn told(alloc: Global, text: &[u8]) -> Result<String, Fail> {
         Err(fault) => return fault_told(alloc, fault),
     };
     match check_processes(&file) {
-        Ok(()) => module_told(alloc, &file),
+        Ok(()) => design_told(alloc, &file),
         Err(fault) => fault_told(alloc, fault),
     }
 }
