@@ -1,5 +1,5 @@
 -- Each line keeps the widths of the inputs, which the line that names them gives.
-use Rattle.std.proofs.Common.{◌≡◌, ℕ, zero, suc, ◌+◌, ◌<◌, List, [], ◌∷◌, length, get_or, map, Bool, true, false, cond, eqb, leb, ltb, ◌&&◌, refl, sym, ◌∙◌, ap, subst, arith, inl, inr, Option, Some, None, Result, Ok, Err}
+use Rattle.std.proofs.Common.{◌≡◌, ℕ, suc, ◌+◌, ◌<◌, List, [], ◌∷◌, length, get_or, map, Bool, cond, eqb, leb, ltb, ◌&&◌, refl, sym, ◌∙◌, ap, subst, arith, inl, inr, Option, Some, None, Result, Ok, Err}
 use Rattle.std.specs.Prelude.{bytes_eq, codes, option_and_then}
 use Rattle.std.specs.Option.{option_map}
 use Rattle.std.proofs.lemmas.Bool.{cases_Bool, cond-true, cond-false}
@@ -8,14 +8,13 @@ use Rattle.sim_base.specs.TimeText.{read_time}
 use Rattle.circuit.specs.declared.netlist.Circuit.{Circuit}
 use Rattle.stimulus_text.specs.Lines.{is_comment, words_of}
 use Rattle.stimulus_text.specs.declared.fault.StimFault.{StimFault}
-use Rattle.stimulus_text.specs.declared.fault.StimFault.TheVariants.{At}
 use Rattle.stimulus_text.specs.declared.fault.StimFaultKind.{StimFaultKind}
 use Rattle.stimulus_text.specs.declared.fault.StimFaultKind.TheVariants as fault
 use Rattle.stimulus_blocks.specs.Courses.{Course, input_widths}
 use Rattle.stimulus_blocks.specs.declared.block.Block.{Block}
 use Rattle.stimulus.specs.Inputs.{columns_of, course_named, course_over, inputs_named, nets_named, width_of}
 use Rattle.stimulus.specs.Reading.{at_end, at_line, course_from}
-use Rattle.stimulus.specs.Steps.{Head, Step, block_line, closed, closed_step, end_line, end_step, fault_at_end, head_line, head_of, head_step, least_behind, line_step, named_step, names_line, offset_step, opened, row_line, values_of, values_step, version_line, with_row, words_step}
+use Rattle.stimulus.specs.Steps.{Head, Step, block_line, closed, closed_step, end_line, end_step, fault_at_end, head_of, head_step, least_behind, line_step, named_step, offset_step, opened, row_line, values_of, values_step, version_line, with_row, words_step}
 use Rattle.stimulus.specs.declared.reading.Reading.{Reading}
 use Rattle.stimulus.specs.declared.reading.Reading.TheVariants as reading
 use Rattle.stimulus.proofs.Columns.{columns_good}
@@ -35,7 +34,7 @@ chosen b r e x is = elim (cases_Bool b) [
   | inr f ↦ (let g : Err e ≡ Ok x = sym (cond-false b r (Err e) f) ∙ is in cc g)
 ]
 
-chosen_last : {X E : Type 0} (b : Bool) (r : Result X E) (e : E) (x : X) → cond b (Err e) r ≡ Ok x → r ≡ Ok x
+pub chosen_last : {X E : Type 0} (b : Bool) (r : Result X E) (e : E) (x : X) → cond b (Err e) r ≡ Ok x → r ≡ Ok x
 chosen_last b r e x is = elim (cases_Bool b) [
   | inl t ↦ (let g : Err e ≡ Ok x = sym (cond-true b (Err e) r t) ∙ is in cc g)
   | inr f ↦ sym (cond-false b (Err e) r f) ∙ is
@@ -137,11 +136,11 @@ end_has c (reading.Between course) s has e =
     let is : course ≡ s = cc f in subst (λ (x : Course). HasInputs c x) is has
 end_has c (reading.Within course block) s has e = cc e
 
-ended : (n : ℕ) (r : Result Course StimFaultKind) (s : Course) → at_end n r ≡ Ok s → r ≡ Ok s
+pub ended : (n : ℕ) (r : Result Course StimFaultKind) (s : Course) → at_end n r ≡ Ok s → r ≡ Ok s
 ended n (Ok course) s e = (let is : course ≡ s = cc e in ap (λ x. Ok x) is)
 ended n (Err kind) s e = cc e
 
-went_on : (n : ℕ) (go_on : Reading → Result Course StimFault) (r : Step) (s : Course) → at_line n go_on r ≡ Ok s → (next : Reading) × (r ≡ Ok next) × (go_on next ≡ Ok s)
+pub went_on : (n : ℕ) (go_on : Reading → Result Course StimFault) (r : Step) (s : Course) → at_line n go_on r ≡ Ok s → (next : Reading) × (r ≡ Ok next) × (go_on next ≡ Ok s)
 went_on n go_on (Ok next) s e = (next, refl, e)
 went_on n go_on (Err kind) s e = cc e
 

@@ -5,4 +5,5 @@ pub mod Grown
 pub mod LineSteps
 pub mod Kept
 pub mod Places
+pub mod HasBlocks
 pub mod InputWidths

@@ -9,7 +9,7 @@ mod steps;
 mod stop;
 mod values;
 
-pub use laws::law_of_inputs;
+pub use laws::{law_of_blocks, law_of_inputs};
 pub use reading::read;
 pub use run::Run;
 pub use stimulus_blocks::{Place, Stimulus};
