@@ -1,0 +1,3 @@
+mod Among
+mod Steps
+pub mod Until
