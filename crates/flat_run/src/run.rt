@@ -1,6 +1,7 @@
 //! A run, of which a contract sees what it means.
-ghost use Rattle.std.specs.Prelude.{◌≡◌, ◌<◌, ◌≤◌, [], IfOk, min};
+ghost use Rattle.std.specs.Prelude.{◌≡◌, ◌<◌, ◌≤◌, IfOk, min};
 ghost use Rattle.circuit.specs.Rounds.{run_length};
+ghost use Rattle.circuit.specs.Shown.{hits};
 ghost use Rattle.flat_design.specs.Flat.{IsFlat};
 ghost use Rattle.flat_run.specs.Run.{AreSamples, run_of};
 ghost use Rattle.flat_stimulus.specs.Until.{samples_until};
@@ -9,7 +10,7 @@ use crate::progress::Progress;
 use circuit::Circuit;
 use flat_stimulus::FlatStimulus;
 use hall_core::Followed;
-use sim_base::{NoMemory, Time};
+use sim_base::{Kinds, NoMemory, Time};
 use std::alloc::Global;
 use std::marker::Model;
 
@@ -55,15 +56,22 @@ impl FlatRun {
         self.stimulus.count()
     }
 
-    /// How many of the first `want` samples settle. What is known of earlier calls is not computed again. A
-    /// flat circuit has no diagnostics.
+    /// How many of the first `want` samples settle. What is known of earlier calls is not computed again.
     pub fn reach(&mut self, want: u64) -> u64
         requires { want ≤ (run_of self.old).count }
         ensures settled { result ≡ min want (run_length (run_of self.old)) }
         ensures run { self.new ≡ self.old }
-        ensures plain { self.old.circuit.diags ≡ [] }
     {
         self.progress.reach(&self.circuit, &self.stimulus, want)
+    }
+
+    /// Whether a diagnostic of one of these kinds fires at sample `k`. A flat circuit has none.
+    pub fn hits(&self, k: u64, kinds: Kinds) -> bool
+        ensures { result ≡ hits (run_of self.now) k kinds }
+    {
+        let _ = &self.circuit;
+        let _ = (k, kinds);
+        false
     }
 
     /// The time of sample `k`.
@@ -94,6 +102,10 @@ impl Followed for FlatRun {
 
     fn reach(&mut self, want: u64) -> u64 {
         FlatRun::reach(self, want)
+    }
+
+    fn hits(&mut self, k: u64, kinds: Kinds) -> bool {
+        FlatRun::hits(self, k, kinds)
     }
 
     fn time(&self, k: u64) -> Time {

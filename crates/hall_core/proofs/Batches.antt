@@ -1,7 +1,7 @@
 -- How many samples may be recorded next.
 use Rattle.std.proofs.Common.{◌≡◌, ℕ, zero, suc, ◌+◌, ◌-◌, ◌<◌, ◌≤◌, Bool, true, false, List, refl, sym, ap, subst, arith, ◌∙◌, inl, inr}
 use Rattle.std.specs.Prelude.{nat_le, nat_lt, not, ◌==◌, ◌&&◌, ◌||◌}
-use Rattle.std.proofs.lemmas.Bool.{and_parts, cases_Bool, cases_lt, cond-true, cond-false, not-true, or_parts}
+use Rattle.std.proofs.lemmas.Bool.{and_parts, cases_Bool, cases_lt, cond-true, cond-false, false≢true, not-true, or_parts}
 use Rattle.std.proofs.lemmas.Bool.Decides.{nat_tests}
 use Rattle.hall_core.specs.Batches.{greatest, hits_goal, may_record, may_stop, record_of, some_hits}
 use Rattle.hall_core.specs.Legal.{HitsAsSaid, Next, RunFacts, allowed}
@@ -67,10 +67,22 @@ greatest_most test (suc n) m le passes = elim (cases_Bool (test (suc n))) [
       )
 ]
 
+-- a number that passes, where it is not 0, is the greatest where none above it does
+pub greatest_at : (test : ℕ → Bool) (n m : ℕ) → m ≤ n → (0 < m → test m ≡ true) → ((j : ℕ) → m < j → j ≤ n → test j ≡ false) → greatest test n ≡ m
+greatest_at test n m le passes fails =
+    let within : greatest test n ≤ n = greatest_within test n in
+    elim (cases_lt m (greatest test n)) [
+      | inl lt ↦ absurd (false≢true (sym (fails (greatest test n) lt within) ∙ greatest_passes test n (omega (arith, lt))))
+      | inr ge ↦ elim (cases_lt 0 m) [
+        | inl some ↦ (let most : m ≤ greatest test n = greatest_most test n m le (passes some) in omega (arith, ge, most))
+        | inr none ↦ omega (arith, ge, none)
+      ]
+    ]
+
 -- ---- records
 
 -- where none of some samples hits, each of them does not
-none_of_them : (facts : RunFacts) (g : Goal) (n m k : ℕ) → some_hits facts g n m ≡ false → n ≤ k → k < n + m → hits_goal facts g k ≡ false
+pub none_of_them : (facts : RunFacts) (g : Goal) (n m k : ℕ) → some_hits facts g n m ≡ false → n ≤ k → k < n + m → hits_goal facts g k ≡ false
 unfolding some_hits
 none_of_them facts g n zero k none low high = absurd (omega (arith, low, high))
 none_of_them facts g n (suc m) k none low high =
@@ -84,10 +96,17 @@ or_false : (a b : Bool) → a ≡ false → b ≡ false → (a || b) ≡ false
 or_false a b p q = ap (λ x. x || b) p ∙ q
 
 -- and the other way round
-each_of_them : (facts : RunFacts) (g : Goal) (n m : ℕ) → ((k : ℕ) → n ≤ k → k < n + m → hits_goal facts g k ≡ false) → some_hits facts g n m ≡ false
+pub each_of_them : (facts : RunFacts) (g : Goal) (n m : ℕ) → ((k : ℕ) → n ≤ k → k < n + m → hits_goal facts g k ≡ false) → some_hits facts g n m ≡ false
 unfolding some_hits
 each_of_them facts g n zero none = refl
 each_of_them facts g n (suc m) none = or_false (hits_goal facts g n) (some_hits facts g (suc n) m) (none n (omega arith) (omega arith)) (each_of_them facts g (suc n) m (λ k low high. none k (omega (arith, low)) (omega (arith, high))))
+
+-- where one of them hits, some do
+pub some_of_them : (facts : RunFacts) (g : Goal) (n m k : ℕ) → n ≤ k → k < n + m → hits_goal facts g k ≡ true → some_hits facts g n m ≡ true
+some_of_them facts g n m k low high hit = elim (cases_Bool (some_hits facts g n m)) [
+  | inl on ↦ on
+  | inr off ↦ absurd (false≢true (sym (none_of_them facts g n m k off low high) ∙ hit))
+]
 
 hits_as_said : (facts : RunFacts) (n m : ℕ) (g : Goal) → some_hits facts g n (m - 1) ≡ false → HitsAsSaid facts n m (hits_goal facts g (n + m - 1)) g
 hits_as_said facts n m goal.Hold none = tt {0}

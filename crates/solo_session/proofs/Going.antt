@@ -1,6 +1,6 @@
 -- What holds of a session goes on to hold as a packet is served, and as samples are recorded.
 use Rattle.std.proofs.Common.{◌≡◌, ℕ, zero, suc, ◌+◌, ◌≤◌, Bool, true, false, List, [], ◌∷◌, ◌++◌, length, refl, sym, ap, subst, arith, ◌∙◌, append-nil, Option, Some, None, Ok, Err, if◌then◌else◌}
-use Rattle.std.specs.Prelude.{nat_le, slice_get, ◌||◌}
+use Rattle.std.specs.Prelude.{nat_le, slice_get}
 use Rattle.std.specs.List.{list_all}
 use Rattle.std.proofs.lemmas.Bool.Decides.{nat_tests}
 use Rattle.std.proofs.lemmas.List.{append_assoc, length_push}

@@ -8,7 +8,7 @@ use Rattle.circuit.specs.Rounds.{Run, run_length}
 use Rattle.hall_core.specs.Facts.{facts_of}
 use Rattle.hall_core.specs.Laws.{Taken, none, one_more}
 use Rattle.hall_core.specs.Legal.{Legal, allowed}
-use Rattle.hall_core.specs.Replay.{Replayed, after, replay}
+use Rattle.hall_core.specs.Replay.{Replayed, replay}
 use Rattle.hall_core.specs.declared.entry.Entry.{Entry}
 use Rattle.hall_core.specs.declared.entry.Entry.TheVariants as entry
 use Rattle.hall_core.specs.declared.entry.Why.{Why}
@@ -30,10 +30,6 @@ use Rattle.solo_session.proofs.Taking.{all_recording_record, all_recording_stop,
 
 -- ---- the client goes on to be served
 
-serving_record : (run : Run) (s : Replayed) (m : ℕ) (hit : Bool) → IsServing run s → s.n + m ≤ run_length run → allowed run.count s (entry.Record m hit) ≡ true → IsServing run (after s (entry.Record m hit))
-serving_record run s m true serving settles may = record { clients = serving.clients; some = omega (arith, serving.some); settled = settles; ahead = tt {0} }
-serving_record run s m false serving settles may = record_served run s m serving settles may
-
 serving_recorded : (run : Run) (h : List Entry) (m : ℕ) → most_next (facts_of run) (replay h) ≡ m → IsServing run (replay h) → IsServing run (replay (h ++ record_entries (facts_of run) (replay h) m))
 serving_recorded run h zero most serving = subst (λ z. IsServing run (replay z)) (sym (append-nil h)) serving
 serving_recorded run h (suc m) most serving =
@@ -41,7 +37,7 @@ serving_recorded run h (suc m) most serving =
     let parts = and_parts (allowed run.count (replay h) (record_of (facts_of run) (replay h) (suc m))) (nat_le ((replay h).n + suc m) (run_length run) && not (some_hits (facts_of run) (replay h).goal (replay h).n (suc m - 1))) passes in
     let settles = and_parts (nat_le ((replay h).n + suc m) (run_length run)) (not (some_hits (facts_of run) (replay h).goal (replay h).n (suc m - 1))) parts.1 in
     subst (λ (z : Replayed). IsServing run z) (sym (replay-push h (record_of (facts_of run) (replay h) (suc m))))
-    (serving_record run (replay h) (suc m) (hits_goal (facts_of run) (replay h).goal ((replay h).n + suc m - 1)) serving (le_of ((replay h).n + suc m) (run_length run) settles.0) parts.0)
+    (record_served run (replay h) (suc m) (hits_goal (facts_of run) (replay h).goal ((replay h).n + suc m - 1)) serving (le_of ((replay h).n + suc m) (run_length run) settles.0) parts.0)
 
 serving_if : (run : Run) (h : List Entry) (stops : Bool) → IsServing run (replay h) → IsServing run (replay (h ++ (if stops then entry.Unsettled ∷ [] else [])))
 serving_if run h true serving =

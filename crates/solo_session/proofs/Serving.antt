@@ -122,8 +122,9 @@ record_ahead run s m goal.Hold is some a may = tt {0}
 record_ahead run s m (goal.To g kinds) is some a may = reached_ahead run s m g kinds (s.n + m == g) refl (record_fits run s m g kinds some is may) a.1 a.2
 record_ahead run s m goal.Over is some a may = absurd a
 
-pub record_served : (run : Run) (s : Replayed) (m : ℕ) → IsServing run s → s.n + m ≤ run_length run → allowed run.count s (entry.Record m false) ≡ true → IsServing run (after s (entry.Record m false))
-record_served run s m serving settles may = record {
+pub record_served : (run : Run) (s : Replayed) (m : ℕ) (hit : Bool) → IsServing run s → s.n + m ≤ run_length run → allowed run.count s (entry.Record m hit) ≡ true → IsServing run (after s (entry.Record m hit))
+record_served run s m true serving settles may = record { clients = serving.clients; some = omega (arith, serving.some); settled = settles; ahead = tt {0} }
+record_served run s m false serving settles may = record {
   clients = serving.clients;
   some = omega (arith, serving.some);
   settled = settles;

@@ -1,14 +1,14 @@
 -- The entries that a session adds to a history may come next.
-use Rattle.std.proofs.Common.{◌≡◌, ◌≢◌, ℕ, zero, suc, ◌+◌, ◌-◌, ◌<◌, ◌≤◌, Bool, true, false, not, List, [], ◌∷◌, ◌++◌, refl, sym, ap, subst, arith, ◌∙◌, append-nil, inl, inr}
-use Rattle.std.specs.Prelude.{nat_le, nat_lt, slice_get, slice_set, ◌==◌, ◌&&◌, if◌then◌else◌}
+use Rattle.std.proofs.Common.{◌≡◌, ◌≢◌, ℕ, zero, suc, ◌≤◌, Bool, true, false, not, List, [], ◌∷◌, ◌++◌, refl, sym, ap, subst, arith, ◌∙◌, append-nil, inl, inr}
+use Rattle.std.specs.Prelude.{nat_le, slice_get, slice_set, ◌==◌, ◌&&◌, if◌then◌else◌}
 use Rattle.std.specs.List.{list_all, list_any}
-use Rattle.std.proofs.lemmas.Bool.{and_parts, cases_Bool, cases_lt, cond-true, cond-false, not-true, or_parts}
+use Rattle.std.proofs.lemmas.Bool.{cases_Bool, cond-true, cond-false}
 use Rattle.std.proofs.lemmas.Bool.Decides.{nat_tests}
 use Rattle.std.proofs.lemmas.List.{append_assoc}
 use Rattle.circuit.specs.Rounds.{Run}
 use Rattle.hall_core.specs.Facts.{facts_of}
 use Rattle.hall_core.specs.Laws.{Taken, one_more, is_recording}
-use Rattle.hall_core.specs.Legal.{HitsAsSaid, Legal, Meets, RunFacts, allowed, is_open, is_over, is_true, some_open}
+use Rattle.hall_core.specs.Legal.{Legal, RunFacts, allowed, is_open, is_over, is_true, some_open}
 use Rattle.hall_core.specs.Replay.{Replayed, after, replay}
 use Rattle.hall_core.specs.declared.entry.Act.{Act}
 use Rattle.hall_core.specs.declared.entry.Entry.{Entry}
@@ -16,10 +16,11 @@ use Rattle.hall_core.specs.declared.entry.Entry.TheVariants as entry
 use Rattle.hall_core.specs.declared.entry.Goal.{Goal}
 use Rattle.hall_core.specs.declared.entry.Goal.TheVariants as goal
 use Rattle.hall_core.specs.declared.entry.Why.{Why}
+use Rattle.hall_core.proofs.Batches.{may_record_next, may_stop_next}
 use Rattle.hall_core.proofs.Histories.{legal_taken}
 use Rattle.hall_core.proofs.Progress.{replay-push}
 use Rattle.solo_session.specs.Pace.{batch_size, most_next, record_entries, recorded, stop_entries, stopped}
-use Rattle.hall_core.specs.Batches.{greatest, hits_goal, may_record, may_stop, record_of, some_hits}
+use Rattle.hall_core.specs.Batches.{greatest, may_record, may_stop, record_of}
 use Rattle.solo_session.specs.Session.{IsAhead, IsServing}
 
 -- ---- what is recorded
@@ -47,55 +48,18 @@ greatest_passes test (suc n) m is = elim (cases_Bool (test (suc n))) [
 pub le_of : (a b : ℕ) → nat_le a b ≡ true → a ≤ b
 le_of a b h = grind (arith, nat_tests)
 
--- where none of some samples hits, each of them does not
-none_of_them : (facts : RunFacts) (g : Goal) (n m k : ℕ) → some_hits facts g n m ≡ false → n ≤ k → k < n + m → hits_goal facts g k ≡ false
-unfolding some_hits
-none_of_them facts g n zero k none low high = absurd (omega (arith, low, high))
-none_of_them facts g n (suc m) k none low high =
-    let parts = or_parts (hits_goal facts g n) (some_hits facts g (suc n) m) none in
-    elim (cases_lt n k) [
-      | inl lt ↦ none_of_them facts g (suc n) m k parts.1 (omega (arith, lt)) (omega (arith, high))
-      | inr ge ↦ (let same : n ≡ k = omega (arith, ge, low) in ap (λ z. hits_goal facts g z) (sym same) ∙ parts.0)
-    ]
-
-hits_as_said : (facts : RunFacts) (n m : ℕ) (g : Goal) → some_hits facts g n m ≡ false → HitsAsSaid facts n (suc m) (hits_goal facts g (n + suc m - 1)) g
-hits_as_said facts n m goal.Hold none = tt {0}
-hits_as_said facts n m (goal.To g kinds) none = (
-  (λ k low high. none_of_them facts (goal.To g kinds) n m k none low (omega (arith, high))),
-  (λ k is. (let same : k ≡ n + suc m - 1 = omega (arith, is) in ap (λ z. facts.hits z kinds) same)),
-)
-hits_as_said facts n m goal.Over none = tt {0}
-
-record_meets : (facts : RunFacts) (s : Replayed) (m : ℕ) → (nat_le (s.n + suc m) facts.length && not (some_hits facts s.goal s.n (suc m - 1))) ≡ true → Meets facts s (record_of facts s (suc m))
-record_meets facts s m passes =
-    let parts = and_parts (nat_le (s.n + suc m) facts.length) (not (some_hits facts s.goal s.n (suc m - 1))) passes in
-    let before : suc m - 1 ≡ m = omega arith in
-    let none : some_hits facts s.goal s.n (suc m - 1) ≡ false = not-true (some_hits facts s.goal s.n (suc m - 1)) parts.1 in
-    (le_of (s.n + suc m) facts.length parts.0, hits_as_said facts s.n m s.goal (sym (ap (λ z. some_hits facts s.goal s.n z) before) ∙ none))
-
 taken_record : (facts : RunFacts) (h : List Entry) (m : ℕ) → most_next facts (replay h) ≡ m → Taken facts h → Taken facts (h ++ record_entries facts (replay h) m)
 taken_record facts h zero most taken = subst (λ z. Taken facts z) (sym (append-nil h)) taken
 taken_record facts h (suc m) most taken =
-    let passes : may_record facts (replay h) (suc m) ≡ true = greatest_passes (may_record facts (replay h)) batch_size m most in
-    let parts = and_parts (allowed facts.count (replay h) (record_of facts (replay h) (suc m))) (nat_le ((replay h).n + suc m) facts.length && not (some_hits facts (replay h).goal (replay h).n (suc m - 1))) passes in
-    one_more taken (record_of facts (replay h) (suc m)) (record { allows = parts.0; meets = record_meets facts (replay h) m parts.1 })
+    one_more taken (record_of facts (replay h) (suc m)) (may_record_next facts h (suc m) (greatest_passes (may_record facts (replay h)) batch_size m most))
 
 pub taken_recorded : (facts : RunFacts) (h : List Entry) → Taken facts h → Taken facts (recorded facts h)
 taken_recorded facts h taken = taken_record facts h (most_next facts (replay h)) refl taken
 
 -- ---- the next sample does not settle
 
-eq_of : (a b : ℕ) → (a == b) ≡ true → a ≡ b
-eq_of a b h = grind (arith, nat_tests)
-
-lt_of : (a b : ℕ) → nat_lt a b ≡ true → a < b
-lt_of a b h = grind (arith, nat_tests)
-
 taken_stop : (facts : RunFacts) (h : List Entry) (stops : Bool) → may_stop facts (replay h) ≡ stops → Taken facts h → Taken facts (h ++ (if stops then entry.Unsettled ∷ [] else []))
-taken_stop facts h true may taken =
-    let parts = and_parts (allowed facts.count (replay h) entry.Unsettled) ((replay h).n == facts.length && nat_lt facts.length facts.count) may in
-    let at = and_parts ((replay h).n == facts.length) (nat_lt facts.length facts.count) parts.1 in
-    one_more taken entry.Unsettled (record { allows = parts.0; meets = (eq_of (replay h).n facts.length at.0, lt_of facts.length facts.count at.1) })
+taken_stop facts h true may taken = one_more taken entry.Unsettled (may_stop_next facts h may)
 taken_stop facts h false may taken = subst (λ z. Taken facts z) (sym (append-nil h)) taken
 
 pub taken_stopped : (facts : RunFacts) (h : List Entry) → Taken facts h → Taken facts (stopped facts h)

@@ -2,3 +2,4 @@ pub mod Pace
 pub mod Session
 pub mod Solo
 pub mod Reading
+pub mod Hits

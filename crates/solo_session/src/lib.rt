@@ -3,6 +3,7 @@
 #![tactic(auto)]
 
 mod asked;
+mod batch;
 mod laws;
 mod session;
 mod solo;

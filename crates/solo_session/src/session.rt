@@ -20,6 +20,7 @@ ghost use Rattle.solo_session.specs.Session.{HasSaid, HasServed, IsRunning, IsSe
 ghost use Rattle.session_core.specs.Replies.{events};
 
 use crate::asked::is_want_of_memory;
+use crate::batch::{Batch, batch_to};
 use frame_zero::{Frame, Framer};
 use hall_core::{Act, Entry, Followed, Goal, Hall, History, Why};
 use proto_packets::{PacketFault, Request, read_packet};
@@ -218,17 +219,23 @@ impl<F: Followed> Session<F> {
         Ok(())
     }
 
-    /// How many samples a batch records.
-    fn most_next(&mut self) -> u64
+    /// The batch that is recorded next: as many samples as the goal lets, up to the first that hits.
+    fn next_batch(&mut self) -> Batch
         requires { IsServing (F.run self.old.samples) (replay self.old.history) }
-        ensures most { result ≡ paces.most_next (facts_of (F.run self.old.samples)) (replay self.old.history) }
-        ensures entry { record_of (facts_of (F.run self.old.samples)) (replay self.old.history) result ≡ entries.Record result false }
+        ensures most { result.samples ≡ paces.most_next (facts_of (F.run self.old.samples)) (replay self.old.history) }
+        ensures entry { 0 < result.samples → record_of (facts_of (F.run self.old.samples)) (replay self.old.history) result.samples ≡ entries.Record result.samples result.hit }
         ensures same { self.new ≡ self.old }
     {
         let n = self.hall.n();
         match self.hall.goal() {
-            Goal::To(goal, _) => self.samples.reach(n + (goal - n).min(BATCH)) - n,
-            _ => 0,
+            Goal::To(goal, kinds) => {
+                let end = self.samples.reach(n + (goal - n).min(BATCH));
+                batch_to(&mut self.samples, n, end, kinds)
+            }
+            _ => Batch {
+                samples: 0,
+                hit: false,
+            },
         }
     }
 
@@ -240,9 +247,9 @@ impl<F: Followed> Session<F> {
         ensures text { OnOk result (text.new.items ≡ text.old.items ++ events (F.run self.old.samples) self.old.client.greeted (replay self.old.history)
             (paces.record_entries (facts_of (F.run self.old.samples)) (replay self.old.history) (paces.most_next (facts_of (F.run self.old.samples)) (replay self.old.history)))) }
     {
-        let more = self.most_next();
-        if more > 0 {
-            self.enter_and_tell(alloc, Entry::Record(more, false), text)?;
+        let batch = self.next_batch();
+        if batch.samples > 0 {
+            self.enter_and_tell(alloc, Entry::Record(batch.samples, batch.hit), text)?;
         }
         Ok(())
     }
