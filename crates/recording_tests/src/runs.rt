@@ -84,3 +84,21 @@ pub fn push_next<R: AllocGlobal + Abort>(rt: &R, run: Run, spool: &mut Spool) {
     assert!(rt; k < u64::MAX && spool.is_next(&s));
     spool.push(rt.alloc(), &s).expect(rt, "memory");
 }
+
+/// Records the next samples of a run, all at once.
+pub fn push_many<R: AllocGlobal + Abort>(rt: &R, run: Run, n: u64, spool: &mut Spool) {
+    let samples = samples(rt, run, spool.count(), n);
+    assert!(rt; spool.are_next(&samples));
+    assert!(rt; spool.count() < 1 << 32 && samples.len() < 1 << 32);
+    spool.push_all(rt.alloc(), &samples).expect(rt, "memory");
+}
+
+/// So many samples of a run, from one on.
+pub fn samples<R: AllocGlobal + Abort>(rt: &R, run: Run, first: u64, n: u64) -> Vec<Sample> {
+    let mut samples = Vec::new(rt.alloc());
+    for k in 0..n {
+        let s = sample(rt, run, first.saturating_add(k));
+        samples.push(s).expect(rt, "memory");
+    }
+    samples
+}

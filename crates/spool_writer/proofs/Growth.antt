@@ -1,6 +1,6 @@
 -- The chunks keep one sample more.
-use Rattle.std.proofs.Common.{◌≡◌, ℕ, ◌+◌, ◌-◌, ◌%◌, ◌<◌, List, [], ◌∷◌, ◌++◌, length, take, Bool, true, false, cond, eqb, refl, sym, ap, ◌∙◌, subst, inl, inr, arith}
-use Rattle.std.proofs.lemmas.List.{append_assoc, get_or-map, length_push, get_or_push, take_more}
+use Rattle.std.proofs.Common.{◌≡◌, ℕ, ◌+◌, ◌-◌, ◌%◌, ◌<◌, ◌≤◌, List, [], ◌∷◌, ◌++◌, length, take, Bool, true, false, cond, eqb, get_or, refl, sym, ap, ◌∙◌, subst, inl, inr, arith}
+use Rattle.std.proofs.lemmas.List.{append_assoc, append-nil, get_or-map, get_or_default, length-append, length_push, length-take-le, get_or_push, take_more}
 use Rattle.std.proofs.lemmas.Bool.{cases_lt, eqb-false, ne_eqb}
 use Rattle.sim_base.specs.Shape.{words_of_widths}
 use Rattle.spool_format.specs.declared.sample.Sample.{Sample}
@@ -122,7 +122,7 @@ one_more r samples k within =
 
 -- ---- a time later than the last sample's
 
-counted_more : (n count : ℕ) → count ≡ n → (count ≡ 0 → ⊥) → 0 < n
+pub counted_more : (n count : ℕ) → count ≡ n → (count ≡ 0 → ⊥) → 0 < n
 counted_more n count is apart = elim (cases_lt 0 n) [ inl more ↦ more | inr none ↦ let zero_count : count ≡ 0 = omega arith in absurd (apart zero_count) ]
 
 pub later_kept : (r : Recording) (full : List (List ℕ)) (growing : List ℕ) (count : ℕ) (last : Sample) (time : ℕ)
@@ -136,3 +136,45 @@ later_kept r full growing count last time h some later =
     let before = later (n - 1) end in
     let kept = h.timed more in
     omega (arith, shown, before, kept)
+
+-- ---- samples behind some that came
+
+pub none_behind : (xs ys : List Sample) (k : ℕ) → k ≡ 0 → xs ++ take k ys ≡ xs
+none_behind xs ys k none = ap (λ n. xs ++ take n ys) none ∙ append-nil xs
+
+pub sample_in_place : (xs : List Sample) (k : ℕ) (d : Sample) → k < length xs → get_or xs k d ≡ sample_at xs k
+sample_in_place xs k d within = get_or_default xs k d (record { number = 0; time = 0; words = [] }) within
+
+pub number_behind : (xs ys : List Sample) (k : ℕ) → k ≤ length ys → length (xs ++ take k ys) ≡ length xs + k
+number_behind xs ys k le = length-append xs (take k ys) ∙ ap (λ n. length xs + n) (length-take-le k ys le)
+
+later_push : (xs : List Sample) (s : Sample) (time : ℕ) → s.time < time → IsLater (xs ++ s ∷ []) time
+later_push xs s time less j end =
+    let long : length (xs ++ s ∷ []) ≡ length xs + 1 = length_push xs s in
+    let at : j ≡ length xs = omega (arith, long, end) in
+    let within : j < length (xs ++ s ∷ []) = omega (arith, long, end) in
+    let shown = get_or-map (λ (t : Sample). t.time) (xs ++ s ∷ []) j (record { number = 0; time = 0; words = [] }) 0 within in
+    let which = ap (λ (t : Sample). t.time) (get_or_push xs s (record { number = 0; time = 0; words = [] }) j (sym at)) in
+    omega (arith, shown, which, less)
+
+push_later : (xs : List Sample) (s : Sample) (time : ℕ) → IsLater (xs ++ s ∷ []) time → s.time < time
+push_later xs s time later =
+    let long : length (xs ++ s ∷ []) ≡ length xs + 1 = length_push xs s in
+    let within : length xs < length (xs ++ s ∷ []) = omega (arith, long) in
+    let shown = get_or-map (λ (t : Sample). t.time) (xs ++ s ∷ []) (length xs) (record { number = 0; time = 0; words = [] }) 0 within in
+    let which = ap (λ (t : Sample). t.time) (get_or_push xs s (record { number = 0; time = 0; words = [] }) (length xs) refl) in
+    let less = later (length xs) (sym long) in
+    omega (arith, shown, which, less)
+
+last_behind : (r : Recording) (ys : List Sample) (k : ℕ) → 0 < k → k ≤ length ys → (r.samples ++ take (k - 1) ys) ++ sample_at ys (k - 1) ∷ [] ≡ r.samples ++ take k ys
+last_behind r ys k some le =
+    let same : k - 1 + 1 ≡ k = omega arith in
+    one_more r ys (k - 1) (omega arith) ∙ ap (λ n. r.samples ++ take n ys) same
+
+pub later_behind : (r : Recording) (ys : List Sample) (k time : ℕ) → 0 < k → k ≤ length ys → (sample_at ys (k - 1)).time < time → IsLater (r.samples ++ take k ys) time
+later_behind r ys k time some le less =
+    subst (λ ss. IsLater ss time) (last_behind r ys k some le) (later_push (r.samples ++ take (k - 1) ys) (sample_at ys (k - 1)) time less)
+
+pub behind_later : (r : Recording) (ys : List Sample) (k time : ℕ) → 0 < k → k ≤ length ys → IsLater (r.samples ++ take k ys) time → (sample_at ys (k - 1)).time < time
+behind_later r ys k time some le later =
+    push_later (r.samples ++ take (k - 1) ys) (sample_at ys (k - 1)) time (subst (λ ss. IsLater ss time) (sym (last_behind r ys k some le)) later)

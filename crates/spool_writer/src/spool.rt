@@ -1,7 +1,8 @@
 //! A recording that grows.
-ghost use Rattle.std.specs.Prelude.{◌≡◌, ◌+◌, ◌^◌, ◌<◌, [], ◌++◌, true, if◌then◌else◌, IfOk, is_ok, length};
+ghost use Rattle.std.specs.Prelude.{◌≡◌, ◌+◌, ◌^◌, ◌<◌, ◌≤◌, [], ◌++◌, true, if◌then◌else◌, IfOk, is_ok, length, take};
 ghost use Rattle.std.specs.Arc.{arc_value};
 ghost use Rattle.spool_format.specs.Kept.{with_sample};
+ghost use Rattle.spool_format.specs.Reading.{sample_at};
 ghost use Rattle.spool_format.specs.Records.{IsLater, IsNext};
 ghost use Rattle.spool_writer.specs.Growing.{AreNext};
 
@@ -76,6 +77,54 @@ impl Spool {
         ensures no { IsLater self.now.samples time → result ≡ true }
     {
         self.count == 0 || self.last.time.femtoseconds() < time.femtoseconds()
+    }
+
+    /// Whether samples may come next, one after another.
+    pub fn are_next(&self, samples: &[Sample]) -> bool
+        ensures yes { result ≡ true → AreNext self.now samples.now }
+        ensures no { AreNext self.now samples.now → result ≡ true }
+    {
+        for k in 0..samples.len() {
+            if !self.follows(samples, k) {
+                return false;
+            }
+        }
+        true
+    }
+
+    /// Whether the sample at a place may come next, once those before it came.
+    fn follows(&self, samples: &[Sample], k: usize) -> bool
+        requires { k < length samples.now }
+        ensures yes { result ≡ true → IsNext self.now.widths (self.now.samples ++ take k samples.now) (sample_at samples.now k) }
+        ensures no { IsNext self.now.widths (self.now.samples ++ take k samples.now) (sample_at samples.now k) → result ≡ true }
+    {
+        let s = &samples[k];
+        self.is_numbered(samples, k, s.number)
+            && self.is_later_behind(samples, k, s.time)
+            && is_sample(&self.shape, s)
+    }
+
+    /// Whether a number is that of the next sample, once the first `k` of some came.
+    fn is_numbered(&self, samples: &[Sample], k: usize, number: u64) -> bool
+        requires { k ≤ length samples.now }
+        ensures yes { result ≡ true → number ≡ length (self.now.samples ++ take k samples.now) }
+        ensures no { number ≡ length (self.now.samples ++ take k samples.now) → result ≡ true }
+    {
+        let _ = samples;
+        u128::from(number) == u128::from(self.count) + k as u128
+    }
+
+    /// Whether a time is later than that of the last sample, once the first `k` of some came.
+    fn is_later_behind(&self, samples: &[Sample], k: usize, time: Time) -> bool
+        requires { k ≤ length samples.now }
+        ensures yes { result ≡ true → IsLater (self.now.samples ++ take k samples.now) time }
+        ensures no { IsLater (self.now.samples ++ take k samples.now) time → result ≡ true }
+    {
+        if k == 0 {
+            self.is_later(time)
+        } else {
+            samples[k - 1].time.femtoseconds() < time.femtoseconds()
+        }
     }
 
     /// Records the next sample. Where memory is wanting, the recording is as before.
