@@ -10,6 +10,7 @@ ghost use Rattle.run_followed.specs.Run.{run_of};
 
 use crate::progress::Progress;
 use eval_plan::Plan;
+use hall_core::Followed;
 use sim_base::{Kinds, NoMemory, Time};
 use std::alloc::Global;
 use std::marker::Model;
@@ -93,5 +94,31 @@ impl FollowedRun {
         ensures most { result ≤ (run_of self.now).count }
     {
         self.run.stimulus.count_until(time)
+    }
+}
+
+impl Followed for FollowedRun {
+    ghost use Rattle.run_followed.specs.Run.{run_of};
+
+    ghost run = { run_of };
+
+    fn count(&self) -> u64 {
+        FollowedRun::count(self)
+    }
+
+    fn reach(&mut self, want: u64) -> u64 {
+        FollowedRun::reach(self, want)
+    }
+
+    fn hits(&mut self, k: u64, kinds: Kinds) -> bool {
+        FollowedRun::hits(self, k, kinds)
+    }
+
+    fn time(&self, k: u64) -> Time {
+        FollowedRun::time(self, k)
+    }
+
+    fn count_until(&self, time: Time) -> u64 {
+        FollowedRun::count_until(self, time)
     }
 }
